@@ -10,7 +10,7 @@ use Rattle.net_model.specs.declared.ids.PointId.{PointId}
 use Rattle.net_model.specs.declared.part.Edge.{Edge}
 use Rattle.closure_model.specs.Keys.{Key, Shape, edge_of, keys_between, labelled_key, labels_at, row_keys}
 use Rattle.closure_model.specs.Tables.{Graph, IsGraph, edges_at, row_of, weight_of}
-use Rattle.closure_model.proofs.Listed.{row_listed}
+use Rattle.closure_model.proofs.ListedEdges.{row_listed}
 use Rattle.closure_model.proofs.Lists.{each-append, each-weaker, each-map, each-every}
 use Rattle.labelled_graph.specs.Entries.{edge_into}
 use Rattle.labelled_graph.specs.declared.entry.Entry.{Entry}

@@ -1,5 +1,6 @@
--- A row that begins with the best ways alone is the reference row: what is not offered is below no slot when that is settled.
-use Rattle.std.proofs.Common.{◌≡◌, ◌≢◌, ℕ, zero, suc, ◌<◌, ◌≤◌, ℤ, pos, ◌≤ℤ◌, ◌<ℤ◌, ◌+ℤ◌, ◌==◌, ◌&&◌, ◌||◌, Bool, true, false, cond, ◌⊎◌, List, [], ◌∷◌, ◌++◌, map, fold, Option, Some, None, refl, ap, sym, subst, ◌∙◌, inl, inr, arith, is_some, is_none}
+-- A row that is seeded with the best candidates alone is the reference row: what is not relaxed is below no slot when that is settled.
+use Rattle.std.proofs.Common.{◌≡◌, ◌≢◌, ℕ, zero, suc, ◌<◌, ◌≤◌, ℤ, pos, ◌≤ℤ◌, ◌<ℤ◌, ◌+ℤ◌, ◌==◌, ◌&&◌, ◌||◌, Bool, true, false, cond, ◌⊎◌, List, [], ◌∷◌, ◌++◌, map, fold, Option, Some, None, refl, ap, sym, subst, ◌∙◌, inl, inr, arith}
+use Rattle.std.proofs.Common.{is_some, is_none}
 use Rattle.std.specs.Prelude.{slice_get, slice_set}
 use Rattle.std.specs.Int.{int_max}
 use Rattle.std.specs.Option.{option_map, option_map_or}
@@ -20,10 +21,10 @@ use Rattle.net_model.specs.declared.part.Link.{Link}
 use Rattle.net_model.proofs.RuleLemmas.{no_case_gives, upper_case_gives, lower_case_gives, cross_case_gives, removal_gives}
 use Rattle.reduction_rules.specs.Applies.{joined}
 use Rattle.closure_model.specs.Keys.{Key, key_of, edge_of, row_keys}
-use Rattle.closure_model.specs.FreshEdges.{fresh_at, AreOfTable, IsMetBut}
+use Rattle.closure_model.specs.DeltaEdges.{delta_at, AreOfTable, IsSaturatedBut}
 use Rattle.closure_model.specs.Least.{weight_at}
-use Rattle.closure_model.specs.LeanRows.{IsThinned, is_live, IsNextLive, IsAllDone, lean_after}
-use Rattle.closure_model.specs.ReferenceRow.{has_above, is_slot_of, offered, given, from_first, edge_in, fell, open_weight, next_slot, consequences, first_slot, first_slots, reference_row, Making, IsInRow}
+use Rattle.closure_model.specs.PrunedRows.{IsThinned, is_live, IsNextLive, IsAllDone, pruned_after}
+use Rattle.closure_model.specs.ReferenceRow.{has_above, is_slot_of, relaxed, given, from_first, edge_in, improved, open_weight, next_slot, consequences, first_slot, first_slots, reference_row, Making, IsInRow}
 use Rattle.closure_model.specs.Tables.{Graph, HasEdge, weight_of, HasAtMost, has_at_most, IsFor, IsGraph}
 use Rattle.closure_model.specs.declared.rows.Made.{Made}
 use Rattle.closure_model.specs.declared.rows.Slot.{Slot}
@@ -35,7 +36,7 @@ use Rattle.closure_model.proofs.KeyLists.{row_keys_rise}
 use Rattle.closure_model.proofs.KeyPlaces.{only_place}
 use Rattle.closure_model.proofs.Lists.{Contains-none, Contains-flat_map_from}
 use Rattle.closure_model.proofs.Nodes.{listed_at}
-use Rattle.closure_model.proofs.RowMaking.{IsMaking}
+use Rattle.closure_model.proofs.RowEdges.{IsMaking}
 use Rattle.closure_model.proofs.RowRun.{IsUnderWay, under_way_first, under_way_done, under_way_next, next_there, fewer_after}
 use Rattle.closure_model.proofs.RowSteps.{unsettled, after_slot}
 use Rattle.closure_model.proofs.RuleSteps.{no_case_lengthens, upper_case_lengthens, lower_case_lengthens, cross_case_lengthens, removal_lengthens}
@@ -43,11 +44,12 @@ use Rattle.closure_model.proofs.Slots.{some_of_map, set_same, set_other, key_in,
 use Rattle.closure_model.proofs.TableLemmas.{at_most_gives, at_most_tested}
 use Rattle.closure_model.proofs.ThinnedLemmas.{given_is}
 use Rattle.closure_model.proofs.Weights.{le_then, lt_then, le_then_lt, lt_is_le, le_of_same, between as meeting_weights, not_below, same_weight}
-use Rattle.back_propagation.specs.Begun.{goes_before}
-use Rattle.back_propagation.specs.BestKeys.{LeadsTo, IsOutdone, BeginsWithBest}
-use Rattle.back_propagation.proofs.BestOffers.{marked, holds_it, IsUnder, thinned_offers, thinned_from, thinned_keeps, IsVain, met_vain, IsLow, IsPromised, IsDue, IsAwaiting, IsAlike, same, passed, awaits, AreAlike, alike_itself, offers_alike, IsSpared, alone_all}
+use Rattle.back_propagation.specs.DeltaRows.{goes_before}
+use Rattle.back_propagation.specs.BestKeys.{LeadsTo, IsOutdone, IsSeededWithBest}
+use Rattle.back_propagation.proofs.BestRelaxations.{marked, holds_it, IsUnder, thinned_relaxations, thinned_from, thinned_keeps, IsVain, met_vain, IsLow, HasPendingWeight, IsDue, IsPendingKey, IsAlike, same, passed, awaits, AreAlike}
+use Rattle.back_propagation.proofs.BestRelaxations.{alike_itself, relaxes_alike, IsSpared, alone_all}
 
--- no slot of the table has fallen
+-- no slot of the table has improved
 first_no_why : (table : Graph) (keys : List Key) (place : ℕ) (slot : Slot) → slice_get (map (first_slot table) keys) place ≡ Some slot → slot.why ≡ None
 first_no_why table [] place slot at = absurd cc
 first_no_why table (key ∷ keys) zero slot at = ap (λ (s : Slot). s.why) (sym (same_Some (first_slot table key) slot at))
@@ -60,13 +62,15 @@ all_true a b c d one two three four = λ i. one i && two i && three i && four i
 no_case_is : (first second : Edge) → is_ordinary first ≡ true → is_ordinary second ≡ true → meet first second ≡ true → is_negative second ≡ true → second.label ≡ None → no_case first second ≡ Some (joined first second)
 unfolding no_case
 no_case_is first second one two three four none =
-    ap (λ (b : Bool). cond b (Some (record { from = first.from; to = second.to; label = None; weight = joined_weight first second })) None) (all_true (is_ordinary first) (is_ordinary second) (meet first second) (is_negative second) one two three four)
+    ap (λ (b : Bool). cond b (Some (record { from = first.from; to = second.to; label = None; weight = joined_weight first second })) None)
+    (all_true (is_ordinary first) (is_ordinary second) (meet first second) (is_negative second) one two three four)
     ∙ ap (λ (label : Option LinkId). Some (record { from = first.from; to = second.to; label = label; weight = joined_weight first second })) (sym none)
 
 upper_case_is : (first second : Edge) → is_ordinary first ≡ true → is_labelled second ≡ true → meet first second ≡ true → is_negative second ≡ true → upper_case first second ≡ Some (joined first second)
 unfolding upper_case
 upper_case_is first second one two three four =
-    ap (λ (b : Bool). cond b (Some (record { from = first.from; to = second.to; label = second.label; weight = joined_weight first second })) None) (all_true (is_ordinary first) (is_labelled second) (meet first second) (is_negative second) one two three four)
+    ap (λ (b : Bool). cond b (Some (record { from = first.from; to = second.to; label = second.label; weight = joined_weight first second })) None)
+    (all_true (is_ordinary first) (is_labelled second) (meet first second) (is_negative second) one two three four)
 
 and_both : (a b : Bool) → (a && b) ≡ true → (a ≡ true) × (b ≡ true)
 and_both true b holds = (refl, holds)
@@ -75,8 +79,9 @@ and_both false b holds = absurd cc
 negative_test : (edge : Edge) → edge.weight <ℤ pos 0 → is_negative edge ≡ true
 negative_test edge below = grind (arith, ints)
 
-way_follows : (net : Plan) (table : Graph) → IsGraph table → (first premise : Edge) → HasEdge table first → goes_before first premise ≡ true → premise.weight <ℤ pos 0 → (made : Made) × Contains (consequences net table premise) made × (made.edge ≡ joined first premise)
-way_follows net table sound first premise held before below = by premise.label refl
+candidate_follows : (net : Plan) (table : Graph) → IsGraph table → (first premise : Edge) → HasEdge table first → goes_before first premise ≡ true → premise.weight <ℤ pos 0
+    → (made : Made) × Contains (consequences net table premise) made × (made.edge ≡ joined first premise)
+candidate_follows net table sound first premise held before below = by premise.label refl
   where
     parts : (is_ordinary first ≡ true) × (meet first premise ≡ true)
     parts = and_both (is_ordinary first) (meet first premise) before
@@ -85,7 +90,7 @@ way_follows net table sound first premise held before below = by premise.label r
     by None none = no_case_stands net table premise sound first (joined first premise) held (no_case_is first premise parts.0 (ap is_none none) parts.1 (negative_test premise below) none)
     by (Some label) some = upper_case_stands net table premise sound first (joined first premise) held (upper_case_is first premise parts.0 (ap is_some some) parts.1 (negative_test premise below))
 
--- what a rule gives with a first premise is the way over both
+-- what a rule gives with a first premise is the candidate over both
 from_first_is : (first premise : Edge) (made : Made) → Contains (from_first premise first) made → (made.edge ≡ joined first premise) × (goes_before first premise ≡ true) × (premise.weight <ℤ pos 0)
 from_first_is first premise made inside = by (Contains-append_cases (given (No first premise) (no_case first premise)) (given (Up first premise) (upper_case first premise)) made inside)
   where
@@ -95,7 +100,8 @@ from_first_is first premise made inside = by (Contains-append_cases (given (No f
         let at : first.to.0 ≡ premise.from.0 = ap (λ (p : PointId). p.0) meets in
         let two : first.to.0 == premise.from.0 ≡ true = grind (arith, nat_tests) in λ i. one i && two i
 
-    by : Contains (given (No first premise) (no_case first premise)) made ⊎ Contains (given (Up first premise) (upper_case first premise)) made → (made.edge ≡ joined first premise) × (goes_before first premise ≡ true) × (premise.weight <ℤ pos 0)
+    by : Contains (given (No first premise) (no_case first premise)) made ⊎ Contains (given (Up first premise) (upper_case first premise)) made
+        → (made.edge ≡ joined first premise) × (goes_before first premise ≡ true) × (premise.weight <ℤ pos 0)
     by (inl here) =
         let gives = no_case_gives first premise made.edge (given_is (No first premise) (no_case first premise) made here) in
         (sym (ap (λ (label : Option LinkId). record { from = first.from; to = premise.to; label = label; weight = joined_weight first premise }) gives.second_ordinary ∙ gives.is), before gives.first_ordinary gives.meeting, gives.negative)
@@ -106,8 +112,8 @@ from_first_is first premise made inside = by (Contains-append_cases (given (No f
 over_not_less : (first weight : ℤ) → weight ≤ℤ (int_max first (pos 0) +ℤ weight)
 over_not_less first weight = grind (arith, ints, clamps)
 
-over_less : (first weight told : ℤ) → weight ≤ℤ told → (int_max first (pos 0) +ℤ weight) ≤ℤ (int_max first (pos 0) +ℤ told)
-over_less first weight told less = grind (arith, ints, clamps)
+over_less : (first weight recorded : ℤ) → weight ≤ℤ recorded → (int_max first (pos 0) +ℤ weight) ≤ℤ (int_max first (pos 0) +ℤ recorded)
+over_less first weight recorded less = grind (arith, ints, clamps)
 
 same_then_lt : (a b c d : ℤ) → a ≡ b → b ≤ℤ c → c ≤ℤ d → d <ℤ a → a <ℤ a
 same_then_lt a b c d equal one two below = grind (arith, ints)
@@ -119,7 +125,8 @@ same_then : (a b c : ℤ) → a ≡ b → b ≤ℤ c → a ≤ℤ c
 same_then a b c equal less = grind (arith, ints)
 
 -- ---- the two rows side by side
-module _ (net : Plan) (table : Graph) (to : PointId) (fresh : List (List Edge)) (begins : ℕ → Bool) (plan : IsPlan net) (fits : IsFor net table) (sound : IsGraph table) (of_table : AreOfTable table fresh) (met : IsMetBut net table to fresh) (best : BeginsWithBest table to fresh begins) where
+module _ (net : Plan) (table : Graph) (to : PointId) (delta : List (List Edge)) (begins : ℕ → Bool) (plan : IsPlan net) (fits : IsFor net table) (sound : IsGraph table) (of_table : AreOfTable table delta)
+    (met : IsSaturatedBut net table to delta) (best : IsSeededWithBest table to delta begins) where
   link_positive : (name : LinkId) (link : Link) → IsLinkOf net name link → IsLink net link
   link_positive name link declared = All-contains (IsLink net) net.links link plan.links_sound (listed_at net.links name.0 link declared)
 
@@ -142,26 +149,26 @@ module _ (net : Plan) (table : Graph) (to : PointId) (fresh : List (List Edge)) 
 
   -- what the settled slots of the reference row are
   making_of : (making : Making) → IsUnderWay net table to making → IsMaking net table to plan fits sound making
-  making_of making way = way.is plan fits sound
+  making_of making candidate = candidate.is plan fits sound
 
   under_way : (making : Making) → IsUnderWay net table to making → IsUnder table to making.slots
-  under_way making way place slot old here has = by slot.why refl
+  under_way making candidate place slot old here has = by slot.why refl
     where
       by : (o : Option Why) → slot.why ≡ o → (weight : ℤ) × (slot.weight ≡ Some weight) × (weight ≤ℤ old)
-      by None absent = (old, (making_of making way).partly.row.unfallen place slot here absent ∙ has, le_of_same old old refl)
+      by None absent = (old, (making_of making candidate).partly.row.unimproved place slot here absent ∙ has, le_of_same old old refl)
       by (Some why) some =
-          let (weight, is, below) = (making_of making way).partly.row.fallen place slot why here some in
+          let (weight, is, below) = (making_of making candidate).partly.row.improvements place slot why here some in
           (weight, is, lt_is_le weight old (below old has))
 
-  -- the row has these slots and this list of what fell: a reference row that is under way has the same but for slots passed over, and others that await less
-  pub record IsLean (slots : List Slot) (made : List Made) : Type 0 where
+  -- the row has these slots and this list of what improved: a reference row that is under way has the same but for slots passed over, and others for which less is pending
+  pub record IsPruned (slots : List Slot) (made : List Made) : Type 0 where
     pub making : Making
-    pub way : IsUnderWay net table to making
-    pub alike : AreAlike table to fresh begins making.slots [] slots
-    pub fell_same : making.made ≡ made
+    pub candidate : IsUnderWay net table to making
+    pub alike : AreAlike table to delta begins making.slots [] slots
+    pub improved_same : making.made ≡ made
 
-  pub lean_first : IsLean (first_slots table to) []
-  lean_first = record { making = record { slots = first_slots table to; made = [] }; way = under_way_first net table to; alike = alike_itself table to fresh begins (first_slots table to); fell_same = refl }
+  pub pruned_first : IsPruned (first_slots table to) []
+  pruned_first = record { making = record { slots = first_slots table to; made = [] }; candidate = under_way_first net table to; alike = alike_itself table to delta begins (first_slots table to); improved_same = refl }
 
   consequences_end : (slot : Slot) (weight : ℤ) (made : Made) → Contains (consequences net table (edge_in to slot weight)) made → (weight ≤ℤ made.edge.weight) × (made.edge.to ≡ to)
   consequences_end slot weight made inside = follows_not_less (edge_in to slot weight) made (consequence_is net table (edge_in to slot weight) made inside)
@@ -169,60 +176,63 @@ module _ (net : Plan) (table : Graph) (to : PointId) (fresh : List (List Edge)) 
   -- ---- the places of a row under way are those of the table
   record IsAtStart (place : ℕ) (slot start : Slot) : Type 0 where
     key : key_in to slot ≡ key_in to start
-    told : start.weight ≡ weight_of table (key_in to slot)
+    recorded : start.weight ≡ weight_of table (key_in to slot)
 
   at_start : (making : Making) → IsUnderWay net table to making → (place : ℕ) (slot start : Slot) → slice_get making.slots place ≡ Some slot → slice_get (first_slots table to) place ≡ Some start → IsAtStart place slot start
-  at_start making way place slot start here found =
-      let row = (making_of making way).partly.row in
+  at_start making candidate place slot start here found =
+      let row = (making_of making candidate).partly.row in
       let start_row = (making_of (record { slots = first_slots table to; made = [] }) (under_way_first net table to)).partly.row in
       let one : slice_get (row_keys table.shape to) place ≡ Some (key_in to slot) = ap (λ (ks : List Key). slice_get ks place) (sym row.keys) ∙ (slice_get-map (key_in to) making.slots place ∙ ap (option_map (key_in to)) here) in
-      let two : slice_get (row_keys table.shape to) place ≡ Some (key_in to start) = ap (λ (ks : List Key). slice_get ks place) (sym start_row.keys) ∙ (slice_get-map (key_in to) (first_slots table to) place ∙ ap (option_map (key_in to)) found) in
+      let two : slice_get (row_keys table.shape to) place ≡ Some (key_in to start) = ap (λ (ks : List Key). slice_get ks place) (sym start_row.keys)
+      ∙ (slice_get-map (key_in to) (first_slots table to) place ∙ ap (option_map (key_in to)) found) in
       let key : key_in to slot ≡ key_in to start = same_Some (key_in to slot) (key_in to start) (sym one ∙ two) in
       let none : start.why ≡ None = first_no_why table (row_keys table.shape to) place start found in
-      record { key = key; told = start_row.unfallen place start found none ∙ ap (weight_of table) (sym key) }
+      record { key = key; recorded = start_row.unimproved place start found none ∙ ap (weight_of table) (sym key) }
 
   -- the slot under way at a place of the table
   slot_under_way : (making : Making) → IsUnderWay net table to making → (place : ℕ) (start : Slot) → slice_get (first_slots table to) place ≡ Some start → (slot : Slot) × (slice_get making.slots place ≡ Some slot)
-  slot_under_way making way place start found =
-      let row = (making_of making way).partly.row in
+  slot_under_way making candidate place start found =
+      let row = (making_of making candidate).partly.row in
       let start_row = (making_of (record { slots = first_slots table to; made = [] }) (under_way_first net table to)).partly.row in
       let same : map (key_in to) making.slots ≡ map (key_in to) (first_slots table to) = row.keys ∙ sym start_row.keys in
       let at : slice_get (map (key_in to) making.slots) place ≡ Some (key_in to start) = ap (λ (ks : List Key). slice_get ks place) same ∙ (slice_get-map (key_in to) (first_slots table to) place ∙ ap (option_map (key_in to)) found) in
       let (slot, there, key) = some_of_map (key_in to) (slice_get making.slots place) (key_in to start) (sym (slice_get-map (key_in to) making.slots place) ∙ at) in
       (slot, there)
 
-  -- a slot under way weighs no more than the table told
-  told_under : (making : Making) → IsUnderWay net table to making → (place : ℕ) (slot start : Slot) (told : ℤ) → slice_get making.slots place ≡ Some slot → slice_get (first_slots table to) place ≡ Some start → start.weight ≡ Some told → (weight : ℤ) × (slot.weight ≡ Some weight) × (weight ≤ℤ told)
-  told_under making way place slot start told here found has = under_way making way place slot told here (sym (at_start making way place slot start here found).told ∙ has)
+  -- a slot under way weighs no more than the table has
+  recorded_under : (making : Making) → IsUnderWay net table to making → (place : ℕ) (slot start : Slot) (recorded : ℤ) → slice_get making.slots place ≡ Some slot → slice_get (first_slots table to) place ≡ Some start
+      → start.weight ≡ Some recorded → (weight : ℤ) × (slot.weight ≡ Some weight) × (weight ≤ℤ recorded)
+  recorded_under making candidate place slot start recorded here found has = under_way making candidate place slot recorded here (sym (at_start making candidate place slot start here found).recorded ∙ has)
 
-  -- the way of a slot at its weight
-  module _ (making : Making) (way : IsUnderWay net table to making) (place : ℕ) (slot : Slot) (weight told : ℤ) (from : PointId) (label : Option LinkId) (led : ℤ) (here : slice_get making.slots place ≡ Some slot) (has : slot.weight ≡ Some weight) (leads : LeadsTo table to fresh place told from label led) where
+  -- the candidate of a slot at its weight
+  module _ (making : Making) (candidate : IsUnderWay net table to making) (place : ℕ) (slot : Slot) (weight recorded : ℤ) (from : PointId) (label : Option LinkId) (reached : ℤ) (here : slice_get making.slots place ≡ Some slot)
+      (has : slot.weight ≡ Some weight) (leads : LeadsTo table to delta place recorded from label reached) where
     start_key : key_in to slot ≡ key_in to leads.slot
-    start_key = (at_start making way place slot leads.slot here leads.here).key
+    start_key = (at_start making candidate place slot leads.slot here leads.here).key
 
-    start_less : weight ≤ℤ told
+    start_less : weight ≤ℤ recorded
     start_less =
-        let (held, had, less) = told_under making way place slot leads.slot told here leads.here leads.has in
-        subst (λ (w : ℤ). w ≤ℤ told) (same_weight held weight (sym had ∙ has)) less
+        let (held, had, less) = recorded_under making candidate place slot leads.slot recorded here leads.here leads.has in
+        subst (λ (w : ℤ). w ≤ℤ recorded) (same_weight held weight (sym had ∙ has)) less
 
-    way_below : weight <ℤ pos 0
-    way_below = le_then_lt weight told (pos 0) start_less leads.negative
+    candidate_below : weight <ℤ pos 0
+    candidate_below = le_then_lt weight recorded (pos 0) start_less leads.negative
 
-    way_before : goes_before leads.first (edge_in to slot weight) ≡ true
-    way_before = ap (λ (k : Key). is_ordinary leads.first && (leads.first.to.0 == k.from.0)) start_key ∙ leads.before
+    candidate_before : goes_before leads.first (edge_in to slot weight) ≡ true
+    candidate_before = ap (λ (k : Key). is_ordinary leads.first && (leads.first.to.0 == k.from.0)) start_key ∙ leads.before
 
-    record IsThere-way : Type 0 where
+    record IsThere-candidate : Type 0 where
       made : Made
       inside : Contains (consequences net table (edge_in to slot weight)) made
       from_is : made.edge.from ≡ from
       label_is : made.edge.label ≡ label
       ends : made.edge.to ≡ to
-      not_more : made.edge.weight ≤ℤ led
+      not_more : made.edge.weight ≤ℤ reached
 
-    way_there : IsThere-way
-    way_there =
-        let held : HasEdge table leads.first = of_table leads.slot.from leads.first leads.is_fresh in
-        let (made, inside, is) = way_follows net table sound leads.first (edge_in to slot weight) held way_before way_below in
+    candidate_there : IsThere-candidate
+    candidate_there =
+        let held : HasEdge table leads.first = of_table leads.slot.from leads.first leads.is_delta in
+        let (made, inside, is) = candidate_follows net table sound leads.first (edge_in to slot weight) held candidate_before candidate_below in
         record {
           made = made;
           inside = inside;
@@ -230,17 +240,18 @@ module _ (net : Plan) (table : Graph) (to : PointId) (fresh : List (List Edge)) 
           label_is = ap (λ (e : Edge). e.label) is ∙ (ap (λ (k : Key). k.label) start_key ∙ leads.label_is);
           ends = ap (λ (e : Edge). e.to) is;
           not_more =
-              same_then made.edge.weight (joined_weight leads.first (edge_in to slot weight)) led (ap (λ (e : Edge). e.weight) is)
-              (subst (λ (w : ℤ). (int_max leads.first.weight (pos 0) +ℤ weight) ≤ℤ w) (sym leads.total_is) (over_less leads.first.weight weight told start_less));
+              same_then made.edge.weight (joined_weight leads.first (edge_in to slot weight)) reached (ap (λ (e : Edge). e.weight) is)
+              (subst (λ (w : ℤ). (int_max leads.first.weight (pos 0) +ℤ weight) ≤ℤ w) (sym leads.total_is) (over_less leads.first.weight weight recorded start_less));
         }
 
     -- it leads to no less than it weighs
-    way_not_less : weight ≤ℤ led
-    way_not_less =
-        le_then weight told led start_less (subst (λ (w : ℤ). told ≤ℤ w) (sym leads.total_is) (over_not_less leads.first.weight told))
+    candidate_not_less : weight ≤ℤ reached
+    candidate_not_less =
+        le_then weight recorded reached start_less (subst (λ (w : ℤ). recorded ≤ℤ w) (sym leads.total_is) (over_not_less leads.first.weight recorded))
 
   -- the slots with one marked
-  mark_at : (slots : List Slot) (place : ℕ) (slot : Slot) → slice_get slots place ≡ Some slot → (other : ℕ) (after : Slot) → slice_get (slice_set slots place (marked slot)) other ≡ Some after → ((other ≡ place) × (after ≡ marked slot)) ⊎ ((other ≢ place) × (slice_get slots other ≡ Some after))
+  mark_at : (slots : List Slot) (place : ℕ) (slot : Slot) → slice_get slots place ≡ Some slot → (other : ℕ) (after : Slot) → slice_get (slice_set slots place (marked slot)) other ≡ Some after
+      → ((other ≡ place) × (after ≡ marked slot)) ⊎ ((other ≢ place) × (slice_get slots other ≡ Some after))
   mark_at slots place slot here other after there = by (other == place) refl
     where
       by : (b : Bool) → (other == place) ≡ b → ((other ≡ place) × (after ≡ marked slot)) ⊎ ((other ≢ place) × (slice_get slots other ≡ Some after))
@@ -263,7 +274,8 @@ module _ (net : Plan) (table : Graph) (to : PointId) (fresh : List (List Edge)) 
       by (inr (apart, at)) = under other after old at has
 
   -- ---- one slot of the reference row is settled
-  module _ (making : Making) (way : IsUnderWay net table to making) (slots : List Slot) (alike : AreAlike table to fresh begins making.slots [] slots) (place : ℕ) (weight : ℤ) (some : next_slot making.slots ≡ Some (place, weight)) (slot : Slot) (here : slice_get making.slots place ≡ Some slot) where
+  module _ (making : Making) (candidate : IsUnderWay net table to making) (slots : List Slot) (alike : AreAlike table to delta begins making.slots [] slots) (place : ℕ) (weight : ℤ) (some : next_slot making.slots ≡ Some (place, weight))
+      (slot : Slot) (here : slice_get making.slots place ≡ Some slot) where
     there_is : slot ≡ (next_there net table to making (place, weight) some).slot
     there_is = same_Some slot (next_there net table to making (place, weight) some).slot (sym here ∙ (next_there net table to making (place, weight) some).here)
 
@@ -276,8 +288,8 @@ module _ (net : Plan) (table : Graph) (to : PointId) (fresh : List (List Edge)) 
     after_is : after_slot net table to making (place, weight) (next_there net table to making (place, weight) some).slot ≡ after_slot net table to making (place, weight) slot
     after_is = ap (after_slot net table to making (place, weight)) (sym there_is)
 
-    way_after : IsUnderWay net table to (after_slot net table to making (place, weight) slot)
-    way_after = subst (IsUnderWay net table to) after_is (under_way_next net table to making (place, weight) some way)
+    candidate_after : IsUnderWay net table to (after_slot net table to making (place, weight) slot)
+    candidate_after = subst (IsUnderWay net table to) after_is (under_way_next net table to making (place, weight) some candidate)
 
     fewer : unsettled (after_slot net table to making (place, weight) slot).slots < unsettled making.slots
     fewer = subst (λ (m : Making). unsettled m.slots < unsettled making.slots) after_is (fewer_after net table to making (place, weight) some)
@@ -289,18 +301,18 @@ module _ (net : Plan) (table : Graph) (to : PointId) (fresh : List (List Edge)) 
         by : ((other ≡ place) × (after ≡ marked slot)) ⊎ ((other ≢ place) × (slice_get making.slots other ≡ Some after)) → (w : ℤ) × (after.weight ≡ Some w) × (w ≤ℤ weight)
         by (inl (equal, is)) = (weight, ap (λ (s : Slot). s.weight) is ∙ has_weight, le_of_same weight weight refl)
         by (inr (apart, at)) =
-            let partly = (making_of making way).partly in
+            let partly = (making_of making candidate).partly in
             let (w, had) = partly.has other after at settled in
             (w, had, partly.ordered other place after slot w weight at here settled had is_open has_weight)
 
     few_not_less : (few : List Made) → IsThinned table (consequences net table (edge_in to slot weight)) few → (made : Made) → Contains few made → weight ≤ℤ made.edge.weight
     few_not_less few thin made inside = (consequences_end slot weight made (thinned_from table to (consequences net table (edge_in to slot weight)) few thin made inside)).0
 
-    offers_are : (few : List Made) → IsThinned table (consequences net table (edge_in to slot weight)) few
-        → (after_slot net table to making (place, weight) slot).slots ≡ fold offered (slice_set making.slots place (marked slot)) few
-    offers_are few thin =
-        thinned_offers table to (consequences net table (edge_in to slot weight)) few (slice_set making.slots place (marked slot))
-        (under_marked making.slots place slot here (under_way making way)) (λ made inside. (consequences_end slot weight made inside).1) thin
+    relaxes_are : (few : List Made) → IsThinned table (consequences net table (edge_in to slot weight)) few
+        → (after_slot net table to making (place, weight) slot).slots ≡ fold relaxed (slice_set making.slots place (marked slot)) few
+    relaxes_are few thin =
+        thinned_relaxations table to (consequences net table (edge_in to slot weight)) few (slice_set making.slots place (marked slot))
+        (under_marked making.slots place slot here (under_way making candidate)) (λ made inside. (consequences_end slot weight made inside).1) thin
 
     -- it is not live: it is passed over
 
@@ -311,43 +323,44 @@ module _ (net : Plan) (table : Graph) (to : PointId) (fresh : List (List Edge)) 
     no_lesser : (other : ℕ) (one : Slot) (w : ℤ) → slice_get making.slots other ≡ Some one → one.settled ≡ false → one.weight ≡ Some w → weight ≤ℤ w
     no_lesser other one w at open_one has = next_first.least other w (opens making.slots other one w at open_one has)
 
-    -- what awaits less is not next
-    not_awaiting : (other : Slot) → IsAwaiting table to fresh begins making.slots [] slot other → ⊥
-    not_awaiting other await = by await.coming
+    -- a slot for which less is pending is not next
+    no_pending_key : (other : Slot) → IsPendingKey table to delta begins making.slots [] slot other → ⊥
+    no_pending_key other await = by await.coming
       where
-        by : IsPromised table to fresh begins making.slots slot.from slot.label await.weight ⊎ IsDue table to fresh begins [] slot.from slot.label await.weight → ⊥
+        by : HasPendingWeight table to delta begins making.slots slot.from slot.label await.weight ⊎ IsDue table to delta begins [] slot.from slot.label await.weight → ⊥
         by (inr due) = Contains-none due.made due.inside
-        by (inl promise) =
-            let (held, had, less) = told_under making way promise.place promise.slot promise.leads.slot promise.told promise.here promise.leads.here promise.leads.has in
-            let first : weight ≤ℤ held = no_lesser promise.place promise.slot held promise.here promise.is_open had in
-            let over : held ≤ℤ promise.led = way_not_less making way promise.place promise.slot held promise.told slot.from slot.label promise.led promise.here had promise.leads in
+        by (inl pending) =
+            let (held, had, less) = recorded_under making candidate pending.place pending.slot pending.leads.slot pending.recorded pending.here pending.leads.here pending.leads.has in
+            let first : weight ≤ℤ held = no_lesser pending.place pending.slot held pending.here pending.is_open had in
+            let over : held ≤ℤ pending.reached = candidate_not_less making candidate pending.place pending.slot held pending.recorded slot.from slot.label pending.reached pending.here had pending.leads in
             let mine : await.weight ≡ weight = same_weight await.weight weight (sym await.has ∙ has_weight) in
-            not_below promise.led promise.led refl (lt_then promise.led await.weight promise.led promise.less (same_then await.weight weight promise.led mine (le_then weight held promise.led first over)))
+            not_below pending.reached pending.reached refl (lt_then pending.reached await.weight pending.reached pending.less (same_then await.weight weight pending.reached mine (le_then weight held pending.reached first over)))
 
-    -- it is the same in the lean row
+    -- it is the same in the pruned row
     next_same : (other : Slot) → slice_get slots place ≡ Some other → slot ≡ other
-    next_same other at = let (lean, found, is) = alike.there place slot here in by lean is ∙ same_Some lean other (sym found ∙ at)
+    next_same other at = let (pruned, found, is) = alike.there place slot here in by pruned is ∙ same_Some pruned other (sym found ∙ at)
       where
-        by : (lean : Slot) → IsAlike table to fresh begins making.slots [] place slot lean → slot ≡ lean
-        by lean (same is) = is
-        by lean (passed is open_slot dead w has) = let settled : slot.settled ≡ true = ap (λ (s : Slot). s.settled) is in let not = is_open in absurd cc
-        by lean (awaits await) = absurd (not_awaiting lean await)
+        by : (pruned : Slot) → IsAlike table to delta begins making.slots [] place slot pruned → slot ≡ pruned
+        by pruned (same is) = is
+        by pruned (passed is open_slot dead w has) = let settled : slot.settled ≡ true = ap (λ (s : Slot). s.settled) is in let not = is_open in absurd cc
+        by pruned (awaits await) = absurd (no_pending_key pruned await)
 
     next_there_too : slice_get slots place ≡ Some slot
-    next_there_too = let (lean, found, is) = alike.there place slot here in found ∙ ap Some (sym (next_same lean found))
+    next_there_too = let (pruned, found, is) = alike.there place slot here in found ∙ ap Some (sym (next_same pruned found))
 
     -- ---- promises, when it is marked
-    promise_marked : (from : PointId) (label : Option LinkId) (w : ℤ) (promise : IsPromised table to fresh begins making.slots from label w) → promise.place ≢ place → IsPromised table to fresh begins (slice_set making.slots place (marked slot)) from label w
-    promise_marked from label w promise apart = record {
-      place = promise.place;
-      slot = promise.slot;
-      here = set_other making.slots place promise.place (marked slot) apart ∙ promise.here;
-      is_open = promise.is_open;
-      begins_there = promise.begins_there;
-      told = promise.told;
-      led = promise.led;
-      leads = promise.leads;
-      less = promise.less;
+    pending_marked : (from : PointId) (label : Option LinkId) (w : ℤ) (pending : HasPendingWeight table to delta begins making.slots from label w) → pending.place ≢ place
+        → HasPendingWeight table to delta begins (slice_set making.slots place (marked slot)) from label w
+    pending_marked from label w pending apart = record {
+      place = pending.place;
+      slot = pending.slot;
+      here = set_other making.slots place pending.place (marked slot) apart ∙ pending.here;
+      is_open = pending.is_open;
+      begins_there = pending.begins_there;
+      recorded = pending.recorded;
+      reached = pending.reached;
+      leads = pending.leads;
+      less = pending.less;
     }
 
     -- ---- it is not live: it is passed over
@@ -355,30 +368,31 @@ module _ (net : Plan) (table : Graph) (to : PointId) (fresh : List (List Edge)) 
       absent : (slot.why ≡ None) × (begins place ≡ false)
       absent = not_live place slot dead
 
-      not_begun : (other : ℕ) → begins other ≡ true → other ≢ place
-      not_begun other begun equal = let both : begins place ≡ true = ap begins (sym equal) ∙ begun in let not = absent.1 in absurd cc
+      begins_elsewhere : (other : ℕ) → begins other ≡ true → other ≢ place
+      begins_elsewhere other seeded equal = let both : begins place ≡ true = ap begins (sym equal) ∙ seeded in let not = absent.1 in absurd cc
 
       had : HasEdge table (edge_in to slot weight)
-      had = sym ((making_of making way).partly.row.unfallen place slot here absent.0) ∙ has_weight
+      had = sym ((making_of making candidate).partly.row.unimproved place slot here absent.0) ∙ has_weight
 
-      -- what follows with fresh edges before it
+      -- what follows with delta edges before it
       abbrev follows : List Made
-      follows = flat_map (from_first (edge_in to slot weight)) (fresh_at fresh slot.from)
+      follows = flat_map (from_first (edge_in to slot weight)) (delta_at delta slot.from)
 
       thin : IsThinned table (consequences net table (edge_in to slot weight)) follows
       thin = met (edge_in to slot weight) had refl
 
-      -- a way of it that leads below what the table has
-      module _ (made : Made) (first : Edge) (is_fresh : Contains (fresh_at fresh slot.from) first) (is : made.edge ≡ joined first (edge_in to slot weight)) (before : goes_before first (edge_in to slot weight) ≡ true) (below : weight <ℤ pos 0) where
-        leads : LeadsTo table to fresh place weight made.edge.from made.edge.label made.edge.weight
+      -- a candidate of it that is below what the table has
+      module _ (made : Made) (first : Edge) (is_delta : Contains (delta_at delta slot.from) first) (is : made.edge ≡ joined first (edge_in to slot weight)) (before : goes_before first (edge_in to slot weight) ≡ true)
+          (below : weight <ℤ pos 0) where
+        leads : LeadsTo table to delta place weight made.edge.from made.edge.label made.edge.weight
         leads =
             let key = row_key in record {
               slot = (start_there).0;
               here = (start_there).1;
-              has = (at_start making way place slot (start_there).0 here (start_there).1).told ∙ had;
+              has = (at_start making candidate place slot (start_there).0 here (start_there).1).recorded ∙ had;
               negative = below;
               first = first;
-              is_fresh = subst (λ (k : Key). Contains (fresh_at fresh k.from) first) key is_fresh;
+              is_delta = subst (λ (k : Key). Contains (delta_at delta k.from) first) key is_delta;
               before = subst (λ (k : Key). goes_before first (edge_of k weight) ≡ true) key before;
               from_is = ap (λ (e : Edge). e.from) (sym is);
               label_is = ap (λ (k : Key). k.label) (sym key) ∙ ap (λ (e : Edge). e.label) (sym is);
@@ -387,116 +401,120 @@ module _ (net : Plan) (table : Graph) (to : PointId) (fresh : List (List Edge)) 
           where
             start_there : (start : Slot) × (slice_get (first_slots table to) place ≡ Some start)
             start_there =
-                let row = (making_of making way).partly.row in
+                let row = (making_of making candidate).partly.row in
                 let start_row = (making_of (record { slots = first_slots table to; made = [] }) (under_way_first net table to)).partly.row in
                 let same' : map (key_in to) making.slots ≡ map (key_in to) (first_slots table to) = row.keys ∙ sym start_row.keys in
-                let at : slice_get (map (key_in to) (first_slots table to)) place ≡ Some (key_in to slot) = ap (λ (ks : List Key). slice_get ks place) (sym same') ∙ (slice_get-map (key_in to) making.slots place ∙ ap (option_map (key_in to)) here) in
+                let at : slice_get (map (key_in to) (first_slots table to)) place ≡ Some (key_in to slot) = ap (λ (ks : List Key). slice_get ks place) (sym same')
+                ∙ (slice_get-map (key_in to) making.slots place ∙ ap (option_map (key_in to)) here) in
                 let (start, found, key) = some_of_map (key_in to) (slice_get (first_slots table to) place) (key_in to slot) (sym (slice_get-map (key_in to) (first_slots table to) place) ∙ at) in
                 (start, found)
 
             row_key : key_in to slot ≡ key_in to (start_there).0
-            row_key = (at_start making way place slot (start_there).0 here (start_there).1).key
+            row_key = (at_start making candidate place slot (start_there).0 here (start_there).1).key
 
-        -- another way that is not worse is to come, or was offered
-        outdone : IsOutdone table to fresh begins place weight made.edge.from made.edge.label made.edge.weight → IsSpared table to fresh begins (slice_set making.slots place (marked slot)) made
-        outdone other = let (one, at) = slot_under_way making way other.other other.leads.slot other.leads.here in by one at one.settled refl
+        -- another candidate that is not worse is to come, or was relaxed
+        outdone : IsOutdone table to delta begins place weight made.edge.from made.edge.label made.edge.weight → IsSpared table to delta begins (slice_set making.slots place (marked slot)) made
+        outdone other = let (one, at) = slot_under_way making candidate other.other other.leads.slot other.leads.here in by one at one.settled refl
           where
             apart : other.other ≢ place
-            apart = not_begun other.other other.begins_there
+            apart = begins_elsewhere other.other other.begins_there
 
             -- it was settled: the slot of the key took it, or had less
-            offered_before : (one : Slot) → slice_get making.slots other.other ≡ Some one → one.settled ≡ true → IsVain table to (slice_set making.slots place (marked slot)) made
-            offered_before one at settled =
-                let (held, has) = (making_of making way).partly.has other.other one at settled in
-                let way' = way_there making way other.other one held other.told made.edge.from made.edge.label other.led at has other.leads in
-                let closed : IsMet to making.slots way'.made.edge = (making_of making way).partly.closed other.other one held at settled has way'.made way'.inside in
-                λ k after there of. vain way'.made closed way'.from_is way'.label_is way'.ends (le_then way'.made.edge.weight other.led made.edge.weight way'.not_more no_more) k after there of
+            relaxed_before : (one : Slot) → slice_get making.slots other.other ≡ Some one → one.settled ≡ true → IsVain table to (slice_set making.slots place (marked slot)) made
+            relaxed_before one at settled =
+                let (held, has) = (making_of making candidate).partly.has other.other one at settled in
+                let candidate' = candidate_there making candidate other.other one held other.recorded made.edge.from made.edge.label other.reached at has other.leads in
+                let closed : IsMet to making.slots candidate'.made.edge = (making_of making candidate).partly.closed other.other one held at settled has candidate'.made candidate'.inside in
+                λ k after there of. vain candidate'.made closed candidate'.from_is candidate'.label_is candidate'.ends (le_then candidate'.made.edge.weight other.reached made.edge.weight candidate'.not_more no_more) k after there of
               where
-                no_more : other.led ≤ℤ made.edge.weight
+                no_more : other.reached ≤ℤ made.edge.weight
                 no_more = less other.no_worse
                   where
-                    less : (other.led <ℤ made.edge.weight) ⊎ ((other.led ≡ made.edge.weight) × ((other.told <ℤ weight) ⊎ ((other.told ≡ weight) × (other.other ≤ place)))) → other.led ≤ℤ made.edge.weight
-                    less (inl lower) = lt_is_le other.led made.edge.weight lower
-                    less (inr (equal, earlier)) = le_of_same other.led made.edge.weight equal
+                    less : (other.reached <ℤ made.edge.weight) ⊎ ((other.reached ≡ made.edge.weight) × ((other.recorded <ℤ weight) ⊎ ((other.recorded ≡ weight) × (other.other ≤ place)))) → other.reached ≤ℤ made.edge.weight
+                    less (inl lower) = lt_is_le other.reached made.edge.weight lower
+                    less (inr (equal, earlier)) = le_of_same other.reached made.edge.weight equal
 
-                vain : (way'' : Made) → IsMet to making.slots way''.edge → way''.edge.from ≡ made.edge.from → way''.edge.label ≡ made.edge.label → way''.edge.to ≡ to → way''.edge.weight ≤ℤ made.edge.weight → (k : ℕ) (after : Slot) → slice_get (slice_set making.slots place (marked slot)) k ≡ Some after → is_slot_of made.edge after ≡ true
+                vain : (candidate'' : Made) → IsMet to making.slots candidate''.edge → candidate''.edge.from ≡ made.edge.from → candidate''.edge.label ≡ made.edge.label → candidate''.edge.to ≡ to
+                    → candidate''.edge.weight ≤ℤ made.edge.weight → (k : ℕ) (after : Slot) → slice_get (slice_set making.slots place (marked slot)) k ≡ Some after → is_slot_of made.edge after ≡ true
                     → has_above after made.edge.weight ≡ false
-                vain way'' closed' from label ends lower k after there of = by (mark_at making.slots place slot here k after there)
+                vain candidate'' closed' from label ends lower k after there of = by (mark_at making.slots place slot here k after there)
                   where
-                    key : key_in to after ≡ key_of way''.edge
+                    key : key_in to after ≡ key_of candidate''.edge
                     key = slot_of_key to made.edge after (ap (λ (e : Edge). e.to) is) of ∙ (λ i. record { to = (ap (λ (e : Edge). e.to) is ∙ sym ends) i; from = sym from i; label = sym label i })
 
                     -- the slot of the key in the row under way
                     held : (one : Slot) → slice_get making.slots k ≡ Some one → key_in to one ≡ key_in to after → one.weight ≡ after.weight → has_above after made.edge.weight ≡ false
                     held one at key' weights =
-                        let keys = (making_of making way).partly.row.keys in
-                        let first_at : slice_get (row_keys table.shape to) k ≡ Some (key_of way''.edge) = ap (λ (ks : List Key). slice_get ks k) (sym keys) ∙ (slice_get-map (key_in to) making.slots k ∙ (ap (option_map (key_in to)) at ∙ ap Some (key' ∙ key))) in
-                        let second_at : slice_get (row_keys table.shape to) closed'.place ≡ Some (key_of way''.edge) = ap (λ (ks : List Key). slice_get ks closed'.place) (sym keys) ∙ (slice_get-map (key_in to) making.slots closed'.place ∙ (ap (option_map (key_in to)) closed'.here ∙ ap Some closed'.of_key)) in
-                        let equal : k ≡ closed'.place = only_place (row_keys table.shape to) (row_keys_rise table.shape to) k closed'.place (key_of way''.edge) first_at second_at in
+                        let keys = (making_of making candidate).partly.row.keys in
+                        let first_at : slice_get (row_keys table.shape to) k ≡ Some (key_of candidate''.edge) = ap (λ (ks : List Key). slice_get ks k) (sym keys)
+                        ∙ (slice_get-map (key_in to) making.slots k ∙ (ap (option_map (key_in to)) at ∙ ap Some (key' ∙ key))) in
+                        let second_at : slice_get (row_keys table.shape to) closed'.place ≡ Some (key_of candidate''.edge) = ap (λ (ks : List Key). slice_get ks closed'.place) (sym keys)
+                        ∙ (slice_get-map (key_in to) making.slots closed'.place ∙ (ap (option_map (key_in to)) closed'.here ∙ ap Some closed'.of_key)) in
+                        let equal : k ≡ closed'.place = only_place (row_keys table.shape to) (row_keys_rise table.shape to) k closed'.place (key_of candidate''.edge) first_at second_at in
                         let one_is : closed'.slot ≡ one = same_Some closed'.slot one (sym closed'.here ∙ (ap (slice_get making.slots) (sym equal) ∙ at)) in
-                        holds_it after made.edge.weight closed'.weight (sym weights ∙ (ap (λ (s : Slot). s.weight) (sym one_is) ∙ closed'.has)) (le_then closed'.weight way''.edge.weight made.edge.weight closed'.less lower)
+                        holds_it after made.edge.weight closed'.weight (sym weights ∙ (ap (λ (s : Slot). s.weight) (sym one_is) ∙ closed'.has)) (le_then closed'.weight candidate''.edge.weight made.edge.weight closed'.less lower)
 
                     by : ((k ≡ place) × (after ≡ marked slot)) ⊎ ((k ≢ place) × (slice_get making.slots k ≡ Some after)) → has_above after made.edge.weight ≡ false
                     by (inl (equal, is')) = held slot (ap (slice_get making.slots) equal ∙ here) (ap (key_in to) (sym is')) (ap (λ (s : Slot). s.weight) (sym is'))
                     by (inr (apart', old)) = held after old refl refl
 
             -- it is open: it is settled later, so that it leads to less
-            is_less : (one : Slot) → slice_get making.slots other.other ≡ Some one → one.settled ≡ false → other.led <ℤ made.edge.weight
+            is_less : (one : Slot) → slice_get making.slots other.other ≡ Some one → one.settled ≡ false → other.reached <ℤ made.edge.weight
             is_less one at open_one = less other.no_worse
               where
-                told_is : (held : ℤ) × (one.weight ≡ Some held) × (held ≤ℤ other.told)
-                told_is = told_under making way other.other one other.leads.slot other.told at other.leads.here other.leads.has
+                recorded_is : (held : ℤ) × (one.weight ≡ Some held) × (held ≤ℤ other.recorded)
+                recorded_is = recorded_under making candidate other.other one other.leads.slot other.recorded at other.leads.here other.leads.has
 
-                first_there : weight ≤ℤ (told_is).0
-                first_there = no_lesser other.other one (told_is).0 at open_one (told_is).1
+                first_there : weight ≤ℤ (recorded_is).0
+                first_there = no_lesser other.other one (recorded_is).0 at open_one (recorded_is).1
 
-                less : (other.led <ℤ made.edge.weight) ⊎ ((other.led ≡ made.edge.weight) × ((other.told <ℤ weight) ⊎ ((other.told ≡ weight) × (other.other ≤ place)))) → other.led <ℤ made.edge.weight
+                less : (other.reached <ℤ made.edge.weight) ⊎ ((other.reached ≡ made.edge.weight) × ((other.recorded <ℤ weight) ⊎ ((other.recorded ≡ weight) × (other.other ≤ place)))) → other.reached <ℤ made.edge.weight
                 less (inl lower) = lower
-                less (inr (equal, inl earlier)) = absurd (not_below other.told other.told refl (lt_then other.told weight other.told earlier (le_then weight (told_is).0 other.told first_there (told_is).2)))
-                less (inr (equal, inr (same_told, before'))) =
+                less (inr (equal, inl earlier)) = absurd (not_below other.recorded other.recorded refl (lt_then other.recorded weight other.recorded earlier (le_then weight (recorded_is).0 other.recorded first_there (recorded_is).2)))
+                less (inr (equal, inr (same_recorded, before'))) =
                     let place_before : other.other < place = (let not = apart in omega arith) in
-                    let lower : weight <ℤ (told_is).0 = next_first.first other.other (told_is).0 (opens making.slots other.other one (told_is).0 at open_one (told_is).1) place_before in
-                    absurd (not_below weight weight refl (lt_then weight (told_is).0 weight lower (subst (λ (w : ℤ). (told_is).0 ≤ℤ w) same_told (told_is).2)))
+                    let lower : weight <ℤ (recorded_is).0 = next_first.first other.other (recorded_is).0 (opens making.slots other.other one (recorded_is).0 at open_one (recorded_is).1) place_before in
+                    absurd (not_below weight weight refl (lt_then weight (recorded_is).0 weight lower (subst (λ (w : ℤ). (recorded_is).0 ≤ℤ w) same_recorded (recorded_is).2)))
 
-            by : (one : Slot) → slice_get making.slots other.other ≡ Some one → (b : Bool) → one.settled ≡ b → IsSpared table to fresh begins (slice_set making.slots place (marked slot)) made
-            by one at true settled = inl (offered_before one at settled)
-            by one at false open_one = inr (promise_marked made.edge.from made.edge.label made.edge.weight (record {
+            by : (one : Slot) → slice_get making.slots other.other ≡ Some one → (b : Bool) → one.settled ≡ b → IsSpared table to delta begins (slice_set making.slots place (marked slot)) made
+            by one at true settled = inl (relaxed_before one at settled)
+            by one at false open_one = inr (pending_marked made.edge.from made.edge.label made.edge.weight (record {
               place = other.other;
               slot = one;
               here = at;
               is_open = open_one;
               begins_there = other.begins_there;
-              told = other.told;
-              led = other.led;
+              recorded = other.recorded;
+              reached = other.reached;
               leads = other.leads;
               less = is_less one at open_one;
             }) apart)
 
-        spared : IsSpared table to fresh begins (slice_set making.slots place (marked slot)) made
+        spared : IsSpared table to delta begins (slice_set making.slots place (marked slot)) made
         spared = by (has_at_most table (record { from = made.edge.from; to = to; label = made.edge.label; weight = made.edge.weight })) refl
           where
             edge_is : record { from = made.edge.from; to = to; label = made.edge.label; weight = made.edge.weight } ≡ made.edge
             edge_is = λ i. record { from = made.edge.from; to = ap (λ (e : Edge). e.to) (sym is) i; label = made.edge.label; weight = made.edge.weight }
 
-            by : (b : Bool) → has_at_most table (record { from = made.edge.from; to = to; label = made.edge.label; weight = made.edge.weight }) ≡ b → IsSpared table to fresh begins (slice_set making.slots place (marked slot)) made
+            by : (b : Bool) → has_at_most table (record { from = made.edge.from; to = to; label = made.edge.label; weight = made.edge.weight }) ≡ b → IsSpared table to delta begins (slice_set making.slots place (marked slot)) made
             by true held =
-                inl (met_vain table to (slice_set making.slots place (marked slot)) made (under_marked making.slots place slot here (under_way making way)) (ap (λ (e : Edge). e.to) is)
+                inl (met_vain table to (slice_set making.slots place (marked slot)) made (under_marked making.slots place slot here (under_way making candidate)) (ap (λ (e : Edge). e.to) is)
                 (subst (HasAtMost table) edge_is (at_most_tested table (record { from = made.edge.from; to = to; label = made.edge.label; weight = made.edge.weight }) held)))
             by false below_it = outdone (best place weight made.edge.from made.edge.label made.edge.weight leads below_it)
 
-      all_spared : (made : Made) → Contains follows made → (weight ≤ℤ made.edge.weight) × (made.edge.to ≡ to) × IsSpared table to fresh begins (slice_set making.slots place (marked slot)) made
+      all_spared : (made : Made) → Contains follows made → (weight ≤ℤ made.edge.weight) × (made.edge.to ≡ to) × IsSpared table to delta begins (slice_set making.slots place (marked slot)) made
       all_spared made inside =
-          let (first, at, is_from) = Contains-flat_map_from (from_first (edge_in to slot weight)) (fresh_at fresh slot.from) made inside in
+          let (first, at, is_from) = Contains-flat_map_from (from_first (edge_in to slot weight)) (delta_at delta slot.from) made inside in
           let (is, before, below) = from_first_is first (edge_in to slot weight) made is_from in
           (few_not_less follows thin made inside, ap (λ (e : Edge). e.to) is, spared made first at is before below)
 
-      marked_alike : AreAlike table to fresh begins (slice_set making.slots place (marked slot)) [] slots
+      marked_alike : AreAlike table to delta begins (slice_set making.slots place (marked slot)) [] slots
       marked_alike = record { there = there; back = back }
         where
-          moved : (other : ℕ) (one lean : Slot) → IsAlike table to fresh begins making.slots [] other one lean → IsAlike table to fresh begins (slice_set making.slots place (marked slot)) [] other one lean
-          moved other one lean (same is) = same is
-          moved other one lean (passed is open_slot dead' w has) = passed is open_slot dead' w has
-          moved other one lean (awaits await) = awaits (record {
+          moved : (other : ℕ) (one pruned : Slot) → IsAlike table to delta begins making.slots [] other one pruned → IsAlike table to delta begins (slice_set making.slots place (marked slot)) [] other one pruned
+          moved other one pruned (same is) = same is
+          moved other one pruned (passed is open_slot dead' w has) = passed is open_slot dead' w has
+          moved other one pruned (awaits await) = awaits (record {
             open_one = await.open_one;
             open_other = await.open_other;
             from_is = await.from_is;
@@ -507,81 +525,86 @@ module _ (net : Plan) (table : Graph) (to : PointId) (fresh : List (List Edge)) 
             coming = still await.coming;
           })
             where
-              still : IsPromised table to fresh begins making.slots one.from one.label await.weight ⊎ IsDue table to fresh begins [] one.from one.label await.weight
-                  → IsPromised table to fresh begins (slice_set making.slots place (marked slot)) one.from one.label await.weight ⊎ IsDue table to fresh begins [] one.from one.label await.weight
-              still (inl promise) = inl (promise_marked one.from one.label await.weight promise (not_begun promise.place promise.begins_there))
+              still : HasPendingWeight table to delta begins making.slots one.from one.label await.weight ⊎ IsDue table to delta begins [] one.from one.label await.weight
+                  → HasPendingWeight table to delta begins (slice_set making.slots place (marked slot)) one.from one.label await.weight ⊎ IsDue table to delta begins [] one.from one.label await.weight
+              still (inl pending) = inl (pending_marked one.from one.label await.weight pending (begins_elsewhere pending.place pending.begins_there))
               still (inr due) = inr due
 
-          mine : (other : Slot) → slice_get slots place ≡ Some other → IsAlike table to fresh begins (slice_set making.slots place (marked slot)) [] place (marked slot) other
+          mine : (other : Slot) → slice_get slots place ≡ Some other → IsAlike table to delta begins (slice_set making.slots place (marked slot)) [] place (marked slot) other
           mine other at =
               let is = next_same other at in
               passed (ap marked is) (ap (λ (s : Slot). s.settled) (sym is) ∙ is_open) (ap (is_live begins place) (sym is) ∙ dead) weight (ap (λ (s : Slot). s.weight) (sym is) ∙ has_weight)
 
-          there : (other : ℕ) (after : Slot) → slice_get (slice_set making.slots place (marked slot)) other ≡ Some after → (lean : Slot) × (slice_get slots other ≡ Some lean) × IsAlike table to fresh begins (slice_set making.slots place (marked slot)) [] other after lean
+          there : (other : ℕ) (after : Slot) → slice_get (slice_set making.slots place (marked slot)) other ≡ Some after
+              → (pruned : Slot) × (slice_get slots other ≡ Some pruned) × IsAlike table to delta begins (slice_set making.slots place (marked slot)) [] other after pruned
           there other after at = by (mark_at making.slots place slot here other after at)
             where
-              by : ((other ≡ place) × (after ≡ marked slot)) ⊎ ((other ≢ place) × (slice_get making.slots other ≡ Some after)) → (lean : Slot) × (slice_get slots other ≡ Some lean) × IsAlike table to fresh begins (slice_set making.slots place (marked slot)) [] other after lean
+              by : ((other ≡ place) × (after ≡ marked slot)) ⊎ ((other ≢ place) × (slice_get making.slots other ≡ Some after))
+                  → (pruned : Slot) × (slice_get slots other ≡ Some pruned) × IsAlike table to delta begins (slice_set making.slots place (marked slot)) [] other after pruned
               by (inl (equal, is)) = (
                 slot,
                 ap (slice_get slots) equal ∙ next_there_too,
-                subst (λ (k : ℕ). IsAlike table to fresh begins (slice_set making.slots place (marked slot)) [] k after slot) (sym equal)
-                    (subst (λ (s : Slot). IsAlike table to fresh begins (slice_set making.slots place (marked slot)) [] place s slot) (sym is) (mine slot next_there_too)),
+                subst (λ (k : ℕ). IsAlike table to delta begins (slice_set making.slots place (marked slot)) [] k after slot) (sym equal)
+                    (subst (λ (s : Slot). IsAlike table to delta begins (slice_set making.slots place (marked slot)) [] place s slot) (sym is) (mine slot next_there_too)),
               )
-              by (inr (apart, old)) = let (lean, found, was) = alike.there other after old in (lean, found, moved other after lean was)
+              by (inr (apart, old)) = let (pruned, found, was) = alike.there other after old in (pruned, found, moved other after pruned was)
 
-          back : (other : ℕ) (lean : Slot) → slice_get slots other ≡ Some lean → (one : Slot) × (slice_get (slice_set making.slots place (marked slot)) other ≡ Some one) × IsAlike table to fresh begins (slice_set making.slots place (marked slot)) [] other one lean
-          back other lean at = by (other == place) refl
+          back : (other : ℕ) (pruned : Slot) → slice_get slots other ≡ Some pruned → (one : Slot) × (slice_get (slice_set making.slots place (marked slot)) other ≡ Some one)
+              × IsAlike table to delta begins (slice_set making.slots place (marked slot)) [] other one pruned
+          back other pruned at = by (other == place) refl
             where
-              by : (b : Bool) → (other == place) ≡ b → (one : Slot) × (slice_get (slice_set making.slots place (marked slot)) other ≡ Some one) × IsAlike table to fresh begins (slice_set making.slots place (marked slot)) [] other one lean
+              by : (b : Bool) → (other == place) ≡ b → (one : Slot) × (slice_get (slice_set making.slots place (marked slot)) other ≡ Some one) × IsAlike table to delta begins (slice_set making.slots place (marked slot)) [] other one pruned
               by true is =
                   let equal : other ≡ place = eqb-true other place is in
-                  let lean_at : slice_get slots place ≡ Some lean = ap (slice_get slots) (sym equal) ∙ at in (
+                  let pruned_at : slice_get slots place ≡ Some pruned = ap (slice_get slots) (sym equal) ∙ at in (
                     marked slot,
                     ap (slice_get (slice_set making.slots place (marked slot))) equal ∙ set_same making.slots place slot (marked slot) here,
-                    subst (λ (k : ℕ). IsAlike table to fresh begins (slice_set making.slots place (marked slot)) [] k (marked slot) lean) (sym equal) (mine lean lean_at),
+                    subst (λ (k : ℕ). IsAlike table to delta begins (slice_set making.slots place (marked slot)) [] k (marked slot) pruned) (sym equal) (mine pruned pruned_at),
                   )
               by false is =
                   let apart : other ≢ place = λ equal. (let test : (other == place) ≡ true = rw equal (grind (arith, nat_tests)) in absurd cc) in
-                  let (one, old, was) = alike.back other lean at in
-                  (one, set_other making.slots place other (marked slot) apart ∙ old, moved other one lean was)
+                  let (one, old, was) = alike.back other pruned at in
+                  (one, set_other making.slots place other (marked slot) apart ∙ old, moved other one pruned was)
 
-      passed_over : (AreAlike table to fresh begins (after_slot net table to making (place, weight) slot).slots [] slots) × ((after_slot net table to making (place, weight) slot).made ≡ making.made)
+      passed_over : (AreAlike table to delta begins (after_slot net table to making (place, weight) slot).slots [] slots) × ((after_slot net table to making (place, weight) slot).made ≡ making.made)
       passed_over =
-          let nothing : fell to slot weight ≡ [] = ap (λ (o : Option Why). option_map_or (λ why. record { edge = edge_in to slot weight; why = why } ∷ []) o []) absent.0 in (
-            subst (λ (list : List Slot). AreAlike table to fresh begins list [] slots) (sym (offers_are follows thin))
-                (alone_all table to fresh begins weight follows (slice_set making.slots place (marked slot)) slots all_spared low_marked marked_alike),
+          let nothing : improved to slot weight ≡ [] = ap (λ (o : Option Why). option_map_or (λ why. record { edge = edge_in to slot weight; why = why } ∷ []) o []) absent.0 in (
+            subst (λ (list : List Slot). AreAlike table to delta begins list [] slots) (sym (relaxes_are follows thin))
+                (alone_all table to delta begins weight follows (slice_set making.slots place (marked slot)) slots all_spared low_marked marked_alike),
             ap (λ (l : List Made). making.made ++ l) nothing ∙ append-nil making.made,
           )
 
     -- ---- it is live: it is settled in both
     module _ (few : List Made) (thin : IsThinned table (consequences net table (edge_in to slot weight)) few) where
       -- a promise of it is due
-      promise_due : (other : ℕ) (one : Slot) (w : ℤ) → slice_get making.slots other ≡ Some one → one.weight ≡ Some w → (promise : IsPromised table to fresh begins making.slots one.from one.label w) → promise.place ≡ place → IsDue table to fresh begins few one.from one.label w
-      promise_due other one w at has promise equal =
-          let mine : promise.slot ≡ slot = same_Some promise.slot slot (sym promise.here ∙ (ap (slice_get making.slots) equal ∙ here)) in
-          let leads' = subst (λ (k : ℕ). LeadsTo table to fresh k promise.told one.from one.label promise.led) equal promise.leads in
-          let way' = way_there making way place slot weight promise.told one.from one.label promise.led here has_weight leads' in
-          let lower : way'.made.edge.weight <ℤ w = le_then_lt way'.made.edge.weight promise.led w way'.not_more promise.less in
+      pending_due : (other : ℕ) (one : Slot) (w : ℤ) → slice_get making.slots other ≡ Some one → one.weight ≡ Some w → (pending : HasPendingWeight table to delta begins making.slots one.from one.label w) → pending.place ≡ place
+          → IsDue table to delta begins few one.from one.label w
+      pending_due other one w at has pending equal =
+          let mine : pending.slot ≡ slot = same_Some pending.slot slot (sym pending.here ∙ (ap (slice_get making.slots) equal ∙ here)) in
+          let leads' = subst (λ (k : ℕ). LeadsTo table to delta k pending.recorded one.from one.label pending.reached) equal pending.leads in
+          let candidate' = candidate_there making candidate place slot weight pending.recorded one.from one.label pending.reached here has_weight leads' in
+          let lower : candidate'.made.edge.weight <ℤ w = le_then_lt candidate'.made.edge.weight pending.reached w candidate'.not_more pending.less in
           record {
-            made = way'.made;
-            inside = thinned_keeps table to (consequences net table (edge_in to slot weight)) few thin way'.made (unmet way'.made way'.from_is way'.label_is way'.ends lower) way'.inside;
-            from_is = way'.from_is;
-            label_is = way'.label_is;
+            made = candidate'.made;
+            inside = thinned_keeps table to (consequences net table (edge_in to slot weight)) few thin candidate'.made (unsaturated candidate'.made candidate'.from_is candidate'.label_is candidate'.ends lower) candidate'.inside;
+            from_is = candidate'.from_is;
+            label_is = candidate'.label_is;
             less = lower;
           }
         where
-          unmet : (made : Made) → made.edge.from ≡ one.from → made.edge.label ≡ one.label → made.edge.to ≡ to → made.edge.weight <ℤ w → HasAtMost table made.edge → ⊥
-          unmet made from label ends lower held =
-              let (old, told, less) = at_most_gives table made.edge held in
+          unsaturated : (made : Made) → made.edge.from ≡ one.from → made.edge.label ≡ one.label → made.edge.to ≡ to → made.edge.weight <ℤ w → HasAtMost table made.edge → ⊥
+          unsaturated made from label ends lower held =
+              let (old, recorded, less) = at_most_gives table made.edge held in
               let key : key_in to one ≡ key_of made.edge = λ i. record { to = sym ends i; from = sym from i; label = sym label i } in
-              let (weight', had, under) = under_way making way other one old at (ap (weight_of table) key ∙ told) in
+              let (weight', had, under) = under_way making candidate other one old at (ap (weight_of table) key ∙ recorded) in
               let same_w : weight' ≡ w = same_weight weight' w (sym had ∙ has) in
               not_below w w refl (same_then_lt w weight' old made.edge.weight (sym same_w) under less lower)
 
-      moved_due : (other : ℕ) (one lean : Slot) → slice_get making.slots other ≡ Some one → IsAlike table to fresh begins making.slots [] other one lean → IsAlike table to fresh begins (slice_set making.slots place (marked slot)) few other one lean
-      moved_due other one lean at (same is) = same is
-      moved_due other one lean at (passed is open_slot dead w has) = passed is open_slot dead w has
-      moved_due other one lean at (awaits await) = awaits (record {
+      moved_due : (other : ℕ) (one pruned : Slot) → slice_get making.slots other ≡ Some one → IsAlike table to delta begins making.slots [] other one pruned
+          → IsAlike table to delta begins (slice_set making.slots place (marked slot)) few other one pruned
+      moved_due other one pruned at (same is) = same is
+      moved_due other one pruned at (passed is open_slot dead w has) = passed is open_slot dead w has
+      moved_due other one pruned at (awaits await) = awaits (record {
         open_one = await.open_one;
         open_other = await.open_other;
         from_is = await.from_is;
@@ -592,109 +615,115 @@ module _ (net : Plan) (table : Graph) (to : PointId) (fresh : List (List Edge)) 
         coming = still await.coming;
       })
         where
-          apart_or : (promise : IsPromised table to fresh begins making.slots one.from one.label await.weight) (b : Bool) → (promise.place == place) ≡ b
-              → IsPromised table to fresh begins (slice_set making.slots place (marked slot)) one.from one.label await.weight ⊎ IsDue table to fresh begins few one.from one.label await.weight
-          apart_or promise true is = inr (promise_due other one await.weight at await.has promise (eqb-true promise.place place is))
-          apart_or promise false is = inl (promise_marked one.from one.label await.weight promise (λ equal. (let test : (promise.place == place) ≡ true = rw equal (grind (arith, nat_tests)) in absurd cc)))
+          apart_or : (pending : HasPendingWeight table to delta begins making.slots one.from one.label await.weight) (b : Bool) → (pending.place == place) ≡ b
+              → HasPendingWeight table to delta begins (slice_set making.slots place (marked slot)) one.from one.label await.weight ⊎ IsDue table to delta begins few one.from one.label await.weight
+          apart_or pending true is = inr (pending_due other one await.weight at await.has pending (eqb-true pending.place place is))
+          apart_or pending false is = inl (pending_marked one.from one.label await.weight pending (λ equal. (let test : (pending.place == place) ≡ true = rw equal (grind (arith, nat_tests)) in absurd cc)))
 
-          still : IsPromised table to fresh begins making.slots one.from one.label await.weight ⊎ IsDue table to fresh begins [] one.from one.label await.weight
-              → IsPromised table to fresh begins (slice_set making.slots place (marked slot)) one.from one.label await.weight ⊎ IsDue table to fresh begins few one.from one.label await.weight
-          still (inl promise) = apart_or promise (promise.place == place) refl
+          still : HasPendingWeight table to delta begins making.slots one.from one.label await.weight ⊎ IsDue table to delta begins [] one.from one.label await.weight
+              → HasPendingWeight table to delta begins (slice_set making.slots place (marked slot)) one.from one.label await.weight ⊎ IsDue table to delta begins few one.from one.label await.weight
+          still (inl pending) = apart_or pending (pending.place == place) refl
           still (inr due) = absurd (Contains-none due.made due.inside)
 
-      both_marked : slice_get slots place ≡ Some slot → AreAlike table to fresh begins (slice_set making.slots place (marked slot)) few (slice_set slots place (marked slot))
+      both_marked : slice_get slots place ≡ Some slot → AreAlike table to delta begins (slice_set making.slots place (marked slot)) few (slice_set slots place (marked slot))
       both_marked at = record { there = there; back = back }
         where
-          there : (other : ℕ) (after : Slot) → slice_get (slice_set making.slots place (marked slot)) other ≡ Some after → (lean : Slot) × (slice_get (slice_set slots place (marked slot)) other ≡ Some lean) × IsAlike table to fresh begins (slice_set making.slots place (marked slot)) few other after lean
+          there : (other : ℕ) (after : Slot) → slice_get (slice_set making.slots place (marked slot)) other ≡ Some after → (pruned : Slot) × (slice_get (slice_set slots place (marked slot)) other ≡ Some pruned)
+              × IsAlike table to delta begins (slice_set making.slots place (marked slot)) few other after pruned
           there other after found = by (mark_at making.slots place slot here other after found)
             where
-              by : ((other ≡ place) × (after ≡ marked slot)) ⊎ ((other ≢ place) × (slice_get making.slots other ≡ Some after)) → (lean : Slot) × (slice_get (slice_set slots place (marked slot)) other ≡ Some lean) × IsAlike table to fresh begins (slice_set making.slots place (marked slot)) few other after lean
+              by : ((other ≡ place) × (after ≡ marked slot)) ⊎ ((other ≢ place) × (slice_get making.slots other ≡ Some after)) → (pruned : Slot) × (slice_get (slice_set slots place (marked slot)) other ≡ Some pruned)
+                  × IsAlike table to delta begins (slice_set making.slots place (marked slot)) few other after pruned
               by (inl (equal, is)) = (marked slot, ap (slice_get (slice_set slots place (marked slot))) equal ∙ set_same slots place slot (marked slot) at, same is)
-              by (inr (apart, old)) = let (lean, there', was) = alike.there other after old in (lean, set_other slots place other (marked slot) apart ∙ there', moved_due other after lean old was)
+              by (inr (apart, old)) = let (pruned, there', was) = alike.there other after old in (pruned, set_other slots place other (marked slot) apart ∙ there', moved_due other after pruned old was)
 
-          back : (other : ℕ) (lean : Slot) → slice_get (slice_set slots place (marked slot)) other ≡ Some lean → (one : Slot) × (slice_get (slice_set making.slots place (marked slot)) other ≡ Some one) × IsAlike table to fresh begins (slice_set making.slots place (marked slot)) few other one lean
-          back other lean found = by (mark_at slots place slot at other lean found)
+          back : (other : ℕ) (pruned : Slot) → slice_get (slice_set slots place (marked slot)) other ≡ Some pruned → (one : Slot) × (slice_get (slice_set making.slots place (marked slot)) other ≡ Some one)
+              × IsAlike table to delta begins (slice_set making.slots place (marked slot)) few other one pruned
+          back other pruned found = by (mark_at slots place slot at other pruned found)
             where
-              by : ((other ≡ place) × (lean ≡ marked slot)) ⊎ ((other ≢ place) × (slice_get slots other ≡ Some lean)) → (one : Slot) × (slice_get (slice_set making.slots place (marked slot)) other ≡ Some one) × IsAlike table to fresh begins (slice_set making.slots place (marked slot)) few other one lean
+              by : ((other ≡ place) × (pruned ≡ marked slot)) ⊎ ((other ≢ place) × (slice_get slots other ≡ Some pruned)) → (one : Slot) × (slice_get (slice_set making.slots place (marked slot)) other ≡ Some one)
+                  × IsAlike table to delta begins (slice_set making.slots place (marked slot)) few other one pruned
               by (inl (equal, is)) = (marked slot, ap (slice_get (slice_set making.slots place (marked slot))) equal ∙ set_same making.slots place slot (marked slot) here, same (sym is))
-              by (inr (apart, old)) = let (one, there', was) = alike.back other lean old in (one, set_other making.slots place other (marked slot) apart ∙ there', moved_due other one lean there' was)
+              by (inr (apart, old)) = let (one, there', was) = alike.back other pruned old in (one, set_other making.slots place other (marked slot) apart ∙ there', moved_due other one pruned there' was)
 
-      settled_both : slice_get slots place ≡ Some slot → AreAlike table to fresh begins (after_slot net table to making (place, weight) slot).slots [] (lean_after slots place slot few)
+      settled_both : slice_get slots place ≡ Some slot → AreAlike table to delta begins (after_slot net table to making (place, weight) slot).slots [] (pruned_after slots place slot few)
       settled_both at =
-          subst (λ (list : List Slot). AreAlike table to fresh begins list [] (lean_after slots place slot few)) (sym (offers_are few thin))
-          (offers_alike table to fresh begins weight few (slice_set making.slots place (marked slot)) (slice_set slots place (marked slot)) (few_not_less few thin) low_marked (both_marked at))
+          subst (λ (list : List Slot). AreAlike table to delta begins list [] (pruned_after slots place slot few)) (sym (relaxes_are few thin))
+          (relaxes_alike table to delta begins weight few (slice_set making.slots place (marked slot)) (slice_set slots place (marked slot)) (few_not_less few thin) low_marked (both_marked at))
 
-  -- ---- what is next in the lean row is next in the reference row, when what is not live was passed over
+  -- ---- what is next in the pruned row is next in the reference row, when what is not live was passed over
   record IsCaughtUp (slots : List Slot) (made : List Made) : Type 0 where
-    lean : IsLean slots made
-    up : (place : ℕ) (weight : ℤ) (slot : Slot) → next_slot lean.making.slots ≡ Some (place, weight) → slice_get lean.making.slots place ≡ Some slot → is_live begins place slot ≡ true
+    pruned : IsPruned slots made
+    up : (place : ℕ) (weight : ℤ) (slot : Slot) → next_slot pruned.making.slots ≡ Some (place, weight) → slice_get pruned.making.slots place ≡ Some slot → is_live begins place slot ≡ true
 
-  module _ (slots : List Slot) (made : List Made) (lean : IsLean slots made) where
-    caught : (place : ℕ) (weight : ℤ) → next_slot lean.making.slots ≡ Some (place, weight) → (slot : Slot) → slice_get lean.making.slots place ≡ Some slot → is_live begins place slot ≡ true → IsCaughtUp slots made
+  module _ (slots : List Slot) (made : List Made) (pruned : IsPruned slots made) where
+    caught : (place : ℕ) (weight : ℤ) → next_slot pruned.making.slots ≡ Some (place, weight) → (slot : Slot) → slice_get pruned.making.slots place ≡ Some slot → is_live begins place slot ≡ true → IsCaughtUp slots made
     caught place weight some slot here live = record {
-      lean = lean;
+      pruned = pruned;
       up = λ p w s is at.
           let equal : (place, weight) ≡ (p, w) = same_Some (place, weight) (p, w) (sym some ∙ is) in
           let place_is : place ≡ p = ap (λ (q : ℕ × ℤ). q.0) equal in
-          let slot_is : slot ≡ s = same_Some slot s (sym here ∙ (ap (slice_get lean.making.slots) place_is ∙ at)) in
+          let slot_is : slot ≡ s = same_Some slot s (sym here ∙ (ap (slice_get pruned.making.slots) place_is ∙ at)) in
           subst (λ (k : ℕ). is_live begins k s ≡ true) place_is (subst (λ (x : Slot). is_live begins place x ≡ true) slot_is live);
     }
 
-    one_passed : (place : ℕ) (weight : ℤ) → next_slot lean.making.slots ≡ Some (place, weight) → (slot : Slot) → slice_get lean.making.slots place ≡ Some slot → is_live begins place slot ≡ false
-        → (later : IsLean slots made) × (unsettled later.making.slots < unsettled lean.making.slots)
+    one_passed : (place : ℕ) (weight : ℤ) → next_slot pruned.making.slots ≡ Some (place, weight) → (slot : Slot) → slice_get pruned.making.slots place ≡ Some slot → is_live begins place slot ≡ false
+        → (later : IsPruned slots made) × (unsettled later.making.slots < unsettled pruned.making.slots)
     one_passed place weight some slot here dead =
-        let (alike, same_made) = passed_over lean.making lean.way slots lean.alike place weight some slot here dead in
-        let less = fewer lean.making lean.way slots lean.alike place weight some slot here in (
+        let (alike, same_made) = passed_over pruned.making pruned.candidate slots pruned.alike place weight some slot here dead in
+        let less = fewer pruned.making pruned.candidate slots pruned.alike place weight some slot here in (
           record {
-            making = after_slot net table to lean.making (place, weight) slot;
-            way = way_after lean.making lean.way slots lean.alike place weight some slot here;
+            making = after_slot net table to pruned.making (place, weight) slot;
+            candidate = candidate_after pruned.making pruned.candidate slots pruned.alike place weight some slot here;
             alike = alike;
-            fell_same = same_made ∙ lean.fell_same;
+            improved_same = same_made ∙ pruned.improved_same;
           },
           less,
         )
 
-    catch_from : ((later : IsLean slots made) → unsettled later.making.slots < unsettled lean.making.slots → IsCaughtUp slots made) → (o : Option (ℕ × ℤ)) → next_slot lean.making.slots ≡ o → IsCaughtUp slots made
-    catch_from again None end = record { lean = lean; up = λ p w s is at. absurd cc }
-    catch_from again (Some (place, weight)) some = let there = next_there net table to lean.making (place, weight) some in by there.slot there.here (is_live begins place there.slot) refl
+    catch_from : ((later : IsPruned slots made) → unsettled later.making.slots < unsettled pruned.making.slots → IsCaughtUp slots made) → (o : Option (ℕ × ℤ)) → next_slot pruned.making.slots ≡ o → IsCaughtUp slots made
+    catch_from again None end = record { pruned = pruned; up = λ p w s is at. absurd cc }
+    catch_from again (Some (place, weight)) some = let there = next_there net table to pruned.making (place, weight) some in by there.slot there.here (is_live begins place there.slot) refl
       where
-        by : (slot : Slot) → slice_get lean.making.slots place ≡ Some slot → (b : Bool) → is_live begins place slot ≡ b → IsCaughtUp slots made
+        by : (slot : Slot) → slice_get pruned.making.slots place ≡ Some slot → (b : Bool) → is_live begins place slot ≡ b → IsCaughtUp slots made
         by slot here true live = caught place weight some slot here live
         by slot here false dead = let (later, less) = one_passed place weight some slot here dead in again later less
 
-  catch_up : (count : ℕ) (slots : List Slot) (made : List Made) (lean : IsLean slots made) → unsettled lean.making.slots ≤ count → IsCaughtUp slots made
-  catch_up zero slots made lean enough = catch_from slots made lean (λ later less. absurd (omega arith)) (next_slot lean.making.slots) refl
-  catch_up (suc count) slots made lean enough = catch_from slots made lean (λ later less. catch_up count slots made later (omega arith)) (next_slot lean.making.slots) refl
+  catch_up : (count : ℕ) (slots : List Slot) (made : List Made) (pruned : IsPruned slots made) → unsettled pruned.making.slots ≤ count → IsCaughtUp slots made
+  catch_up zero slots made pruned enough = catch_from slots made pruned (λ later less. absurd (omega arith)) (next_slot pruned.making.slots) refl
+  catch_up (suc count) slots made pruned enough = catch_from slots made pruned (λ later less. catch_up count slots made later (omega arith)) (next_slot pruned.making.slots) refl
 
-  caught_up : (slots : List Slot) (made : List Made) → IsLean slots made → IsCaughtUp slots made
-  caught_up slots made lean = catch_up (unsettled lean.making.slots) slots made lean (omega arith)
+  caught_up : (slots : List Slot) (made : List Made) → IsPruned slots made → IsCaughtUp slots made
+  caught_up slots made pruned = catch_up (unsettled pruned.making.slots) slots made pruned (omega arith)
 
-  -- the next slot of the reference row is the same in the lean row
-  next_is_there : (slots : List Slot) (made : List Made) (up : IsCaughtUp slots made) (place : ℕ) (weight : ℤ) (slot : Slot) → next_slot up.lean.making.slots ≡ Some (place, weight) → slice_get up.lean.making.slots place ≡ Some slot → slice_get slots place ≡ Some slot
-  next_is_there slots made up place weight slot some here = next_there_too up.lean.making up.lean.way slots up.lean.alike place weight some slot here
+  -- the next slot of the reference row is the same in the pruned row
+  next_is_there : (slots : List Slot) (made : List Made) (up : IsCaughtUp slots made) (place : ℕ) (weight : ℤ) (slot : Slot) → next_slot up.pruned.making.slots ≡ Some (place, weight) → slice_get up.pruned.making.slots place ≡ Some slot
+      → slice_get slots place ≡ Some slot
+  next_is_there slots made up place weight slot some here = next_there_too up.pruned.making up.pruned.candidate slots up.pruned.alike place weight some slot here
 
-  lean_next_is : (slots : List Slot) (made : List Made) (up : IsCaughtUp slots made) (place : ℕ) (slot : Slot) (weight : ℤ) → IsNextLive begins slots place slot weight → next_slot up.lean.making.slots ≡ Some (place, weight)
-  lean_next_is slots made up place slot weight next_live = by (next_slot up.lean.making.slots) refl (first_least-is open_weight up.lean.making.slots)
+  pruned_next_is : (slots : List Slot) (made : List Made) (up : IsCaughtUp slots made) (place : ℕ) (slot : Slot) (weight : ℤ) → IsNextLive begins slots place slot weight → next_slot up.pruned.making.slots ≡ Some (place, weight)
+  pruned_next_is slots made up place slot weight next_live = by (next_slot up.pruned.making.slots) refl (first_least-is open_weight up.pruned.making.slots)
     where
       -- the slot of the reference row there is open, at no more
-      mine : (held : ℤ) × (weight_at open_weight up.lean.making.slots place ≡ Some held) × (held ≤ℤ weight)
-      mine = let (one, at, is) = up.lean.alike.back place slot next_live.here in of one at is
+      mine : (held : ℤ) × (weight_at open_weight up.pruned.making.slots place ≡ Some held) × (held ≤ℤ weight)
+      mine = let (one, at, is) = up.pruned.alike.back place slot next_live.here in of one at is
         where
-          of : (one : Slot) → slice_get up.lean.making.slots place ≡ Some one → IsAlike table to fresh begins up.lean.making.slots [] place one slot → (held : ℤ) × (weight_at open_weight up.lean.making.slots place ≡ Some held) × (held ≤ℤ weight)
-          of one at (same is) = (weight, opens up.lean.making.slots place slot weight (at ∙ ap Some is) next_live.open_slot next_live.has, le_of_same weight weight refl)
+          of : (one : Slot) → slice_get up.pruned.making.slots place ≡ Some one → IsAlike table to delta begins up.pruned.making.slots [] place one slot
+              → (held : ℤ) × (weight_at open_weight up.pruned.making.slots place ≡ Some held) × (held ≤ℤ weight)
+          of one at (same is) = (weight, opens up.pruned.making.slots place slot weight (at ∙ ap Some is) next_live.open_slot next_live.has, le_of_same weight weight refl)
           of one at (passed is open_slot dead w has) = let live = next_live.live in absurd cc
-          of one at (awaits await) = (await.weight, opens up.lean.making.slots place one await.weight at await.open_one await.has, await.not_less weight next_live.has)
+          of one at (awaits await) = (await.weight, opens up.pruned.making.slots place one await.weight at await.open_one await.has, await.not_less weight next_live.has)
 
-      by : (o : Option (ℕ × ℤ)) → next_slot up.lean.making.slots ≡ o → FirstIs open_weight up.lean.making.slots o → o ≡ Some (place, weight)
+      by : (o : Option (ℕ × ℤ)) → next_slot up.pruned.making.slots ≡ o → FirstIs open_weight up.pruned.making.slots o → o ≡ Some (place, weight)
       by None end all = let (held, here, less) = mine in let absent = all place in absurd cc
       by (Some (p, w)) some first =
           let (held, here, less) = mine in
-          let there = next_there net table to up.lean.making (p, w) some in
-          let lean_here : slice_get slots p ≡ Some there.slot = next_is_there slots made up p w there.slot some there.here in
+          let there = next_there net table to up.pruned.making (p, w) some in
+          let pruned_here : slice_get slots p ≡ Some there.slot = next_is_there slots made up p w there.slot some there.here in
           let live : is_live begins p there.slot ≡ true = up.up p w there.slot some there.here in
-          let under : weight ≤ℤ w = next_live.least p there.slot w lean_here live there.is_open there.has in
+          let under : weight ≤ℤ w = next_live.least p there.slot w pruned_here live there.is_open there.has in
           let over : w ≤ℤ weight = le_then w held weight (first.least place held here) less in
-          let not_before : p < place → ⊥ = λ earlier. not_below weight weight refl (lt_then weight w weight (next_live.first p there.slot w lean_here live there.is_open there.has earlier) over) in
+          let not_before : p < place → ⊥ = λ earlier. not_below weight weight refl (lt_then weight w weight (next_live.first p there.slot w pruned_here live there.is_open there.has earlier) over) in
           let not_after : place < p → ⊥ = λ earlier. not_below w w refl (lt_then w held w (first.first place held here earlier) (le_then held weight w less under)) in
           let places : p ≡ place = let a = not_before in let b = not_after in omega arith in
           let weights : w ≡ weight = meeting_weights w weight over under in
@@ -703,46 +732,48 @@ module _ (net : Plan) (table : Graph) (to : PointId) (fresh : List (List Edge)) 
   -- the next live slot is the same in the reference row
   record IsNextInBoth (slots : List Slot) (made : List Made) (place : ℕ) (slot : Slot) (weight : ℤ) : Type 0 where
     up : IsCaughtUp slots made
-    some : next_slot up.lean.making.slots ≡ Some (place, weight)
-    here : slice_get up.lean.making.slots place ≡ Some slot
+    some : next_slot up.pruned.making.slots ≡ Some (place, weight)
+    here : slice_get up.pruned.making.slots place ≡ Some slot
 
-  next_in_both : (slots : List Slot) (made : List Made) (place : ℕ) (slot : Slot) (weight : ℤ) → IsLean slots made → IsNextLive begins slots place slot weight → IsNextInBoth slots made place slot weight
-  next_in_both slots made place slot weight lean next_live =
-      let up = caught_up slots made lean in
-      let some = lean_next_is slots made up place slot weight next_live in
-      let there = next_there net table to up.lean.making (place, weight) some in
+  next_in_both : (slots : List Slot) (made : List Made) (place : ℕ) (slot : Slot) (weight : ℤ) → IsPruned slots made → IsNextLive begins slots place slot weight → IsNextInBoth slots made place slot weight
+  next_in_both slots made place slot weight pruned next_live =
+      let up = caught_up slots made pruned in
+      let some = pruned_next_is slots made up place slot weight next_live in
+      let there = next_there net table to up.pruned.making (place, weight) some in
       let is : there.slot ≡ slot = same_Some there.slot slot (sym (next_is_there slots made up place weight there.slot some there.here) ∙ next_live.here) in
       record { up = up; some = some; here = there.here ∙ ap Some is }
 
-  pub lean_step : (slots : List Slot) (made : List Made) (place : ℕ) (slot : Slot) (weight : ℤ) (few : List Made) → IsLean slots made → IsNextLive begins slots place slot weight → IsThinned table (consequences net table (edge_in to slot weight)) few
-      → IsLean (lean_after slots place slot few) (made ++ fell to slot weight)
-  lean_step slots made place slot weight few lean next_live thin =
-      let both = next_in_both slots made place slot weight lean next_live in
+  pub pruned_step : (slots : List Slot) (made : List Made) (place : ℕ) (slot : Slot) (weight : ℤ) (few : List Made) → IsPruned slots made → IsNextLive begins slots place slot weight
+      → IsThinned table (consequences net table (edge_in to slot weight)) few
+      → IsPruned (pruned_after slots place slot few) (made ++ improved to slot weight)
+  pruned_step slots made place slot weight few pruned next_live thin =
+      let both = next_in_both slots made place slot weight pruned next_live in
       let up = both.up in record {
-        making = after_slot net table to up.lean.making (place, weight) slot;
-        way = way_after up.lean.making up.lean.way slots up.lean.alike place weight both.some slot both.here;
-        alike = settled_both up.lean.making up.lean.way slots up.lean.alike place weight both.some slot both.here few thin next_live.here;
-        fell_same = ap (λ (l : List Made). l ++ fell to slot weight) up.lean.fell_same;
+        making = after_slot net table to up.pruned.making (place, weight) slot;
+        candidate = candidate_after up.pruned.making up.pruned.candidate slots up.pruned.alike place weight both.some slot both.here;
+        alike = settled_both up.pruned.making up.pruned.candidate slots up.pruned.alike place weight both.some slot both.here few thin next_live.here;
+        improved_same = ap (λ (l : List Made). l ++ improved to slot weight) up.pruned.improved_same;
       }
 
-  pub lean_done : (slots : List Slot) (made : List Made) → IsLean slots made → IsAllDone begins slots → made ≡ reference_row net table to
-  lean_done slots made lean all = let up = caught_up slots made lean in by up (next_slot up.lean.making.slots) refl
+  pub pruned_done : (slots : List Slot) (made : List Made) → IsPruned slots made → IsAllDone begins slots → made ≡ reference_row net table to
+  pruned_done slots made pruned all = let up = caught_up slots made pruned in by up (next_slot up.pruned.making.slots) refl
     where
-      by : (up : IsCaughtUp slots made) (o : Option (ℕ × ℤ)) → next_slot up.lean.making.slots ≡ o → made ≡ reference_row net table to
-      by up None end = sym up.lean.fell_same ∙ under_way_done net table to up.lean.making end up.lean.way
+      by : (up : IsCaughtUp slots made) (o : Option (ℕ × ℤ)) → next_slot up.pruned.making.slots ≡ o → made ≡ reference_row net table to
+      by up None end = sym up.pruned.improved_same ∙ under_way_done net table to up.pruned.making end up.pruned.candidate
       by up (Some (place, weight)) some =
-          let there = next_there net table to up.lean.making (place, weight) some in
+          let there = next_there net table to up.pruned.making (place, weight) some in
           let settled = all place there.slot weight (next_is_there slots made up place weight there.slot some there.here) (up.up place weight there.slot some there.here) there.has in
           let is_open = there.is_open in absurd cc
 
   -- the edge of the next live slot is derivable in the row
-  pub lean_derivable : (slots : List Slot) (made : List Made) (lean : IsLean slots made) (place : ℕ) (slot : Slot) (weight : ℤ) → IsNextLive begins slots place slot weight → IsInRow net table to (edge_in to slot weight)
-  lean_derivable slots made lean place slot weight next_live =
-      let both = next_in_both slots made place slot weight lean next_live in
-      (making_of both.up.lean.making both.up.lean.way).partly.row.derivable place slot weight both.here next_live.has
+  pub pruned_derivable : (slots : List Slot) (made : List Made) (pruned : IsPruned slots made) (place : ℕ) (slot : Slot) (weight : ℤ) → IsNextLive begins slots place slot weight → IsInRow net table to (edge_in to slot weight)
+  pruned_derivable slots made pruned place slot weight next_live =
+      let both = next_in_both slots made place slot weight pruned next_live in
+      (making_of both.up.pruned.making both.up.pruned.candidate).partly.row.derivable place slot weight both.here next_live.has
 
-  -- where it has not fallen it is as the table has it
-  pub lean_unfallen : (slots : List Slot) (made : List Made) (lean : IsLean slots made) (place : ℕ) (slot : Slot) (weight : ℤ) → IsNextLive begins slots place slot weight → slot.why ≡ None → slot.weight ≡ weight_of table (key_in to slot)
-  lean_unfallen slots made lean place slot weight next_live absent =
-      let both = next_in_both slots made place slot weight lean next_live in
-      (making_of both.up.lean.making both.up.lean.way).partly.row.unfallen place slot both.here absent
+  -- if it has not improved, it is as the table has it
+  pub pruned_unimproved : (slots : List Slot) (made : List Made) (pruned : IsPruned slots made) (place : ℕ) (slot : Slot) (weight : ℤ) → IsNextLive begins slots place slot weight → slot.why ≡ None
+      → slot.weight ≡ weight_of table (key_in to slot)
+  pruned_unimproved slots made pruned place slot weight next_live absent =
+      let both = next_in_both slots made place slot weight pruned next_live in
+      (making_of both.up.pruned.making both.up.pruned.candidate).partly.row.unimproved place slot both.here absent

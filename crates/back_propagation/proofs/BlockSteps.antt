@@ -1,5 +1,6 @@
--- Where no edge of a block goes below the row, nothing that follows with them changes it.
-use Rattle.std.proofs.Common.{◌≡◌, ℕ, zero, suc, ◌+◌, ◌<◌, ◌≤◌, ◌-◌, ℤ, pos, ◌*◌, ◌≤ℤ◌, ◌+ℤ◌, ◌==◌, ◌&&◌, Bool, true, false, cond, List, [], ◌∷◌, ◌++◌, length, map, fold, drop, get_or, append_assoc, append-nil, nat_lt, Option, Some, None, refl, ap, sym, subst, ◌∙◌, arith}
+-- If no edge of a block goes below the row, nothing that follows with them changes it.
+use Rattle.std.proofs.Common.{◌≡◌, ℕ, zero, suc, ◌+◌, ◌<◌, ◌≤◌, ◌-◌, ℤ, pos, ◌*◌, ◌≤ℤ◌, ◌+ℤ◌, ◌==◌, ◌&&◌, Bool, true, false, cond, List, [], ◌∷◌, ◌++◌, length, map, fold, drop, get_or, append_assoc, append-nil, nat_lt, Option, Some, None}
+use Rattle.std.proofs.Common.{refl, ap, sym, subst, ◌∙◌, arith}
 use Rattle.std.specs.Prelude.{slice_get, slice_range, IsSomeAnd, int_lt, is_none}
 use Rattle.std.specs.Int.{int_max}
 use Rattle.std.specs.Option.{option_map, option_map_or}
@@ -16,7 +17,7 @@ use Rattle.net_model.specs.Rules.{joined_weight, no_case, upper_case}
 use Rattle.net_model.specs.declared.part.Edge.{Edge}
 use Rattle.net_model.specs.Network.{Plan}
 use Rattle.net_model.specs.declared.ids.PointId.{PointId}
-use Rattle.closure_model.specs.ReferenceRow.{given, has_above, offered, from_first}
+use Rattle.closure_model.specs.ReferenceRow.{given, has_above, relaxed, from_first}
 use Rattle.closure_model.specs.declared.rows.Why.{Why}
 use Rattle.closure_model.specs.declared.rows.Why.TheVariants.{No, Up}
 use Rattle.net_model.specs.declared.ids.LinkId.{LinkId}
@@ -32,17 +33,17 @@ use Rattle.labelled_graph.specs.declared.entry.Entry.{Entry}
 use Rattle.closure_model.specs.Keys.{Key, ordinary_key, row_keys}
 use Rattle.closure_model.proofs.Slots.{some_of_map}
 use Rattle.closure_model.specs.Tables.{weight_of}
-use Rattle.labelled_graph.specs.Words.{absent, held, MeetsHeld}
-use Rattle.back_propagation.specs.Blocks.{AllAreMet, IsHeld, IsMetIn}
-use Rattle.back_propagation.specs.Begun.{goes_before}
-use Rattle.back_propagation.proofs.BegunSteps.{before_is}
+use Rattle.labelled_graph.specs.Words.{absent, held, SaturatesHeld}
+use Rattle.back_propagation.specs.Blocks.{AllAreSaturated, IsHeld, IsSaturatedIn}
+use Rattle.back_propagation.specs.DeltaRows.{goes_before}
+use Rattle.back_propagation.proofs.SeededSteps.{before_is}
 use Rattle.back_propagation.specs.SlimSlots.{StandsFor}
-use Rattle.back_propagation.specs.Offering.{place_in_slots, slot_key, after_entry, IsRowAgainst, IsOfRow}
-use Rattle.back_propagation.specs.OpenRows.{IsOffering, HasOffered}
+use Rattle.back_propagation.specs.SlotPlaces.{place_in_slots, slot_key, after_entry, IsRowAgainst, IsOfRow}
+use Rattle.back_propagation.specs.OpenRows.{IsRelaxing, HasRelaxed}
 use Rattle.back_propagation.specs.declared.open_row.Basis.{Basis}
 use Rattle.back_propagation.specs.declared.open_row.OpenRow.{OpenRow}
-use Rattle.back_propagation.proofs.OfferSteps.{entry_held, first_place, first_left}
-use Rattle.back_propagation.proofs.OpenRowSteps.{offers_nothing, offers_then}
+use Rattle.back_propagation.proofs.RelaxSteps.{entry_held, first_place, first_unchanged}
+use Rattle.back_propagation.proofs.OpenRowSteps.{relaxes_nothing, relaxes_then}
 use Rattle.back_propagation.proofs.RowPlaces.{row_at, at_column, column_inside}
 use Rattle.back_propagation.proofs.QueuedSteps.{keeps_itself}
 
@@ -56,28 +57,31 @@ abbrev no_edge : Edge
 no_edge = record { from = record { 0 = 0 }; to = record { 0 = 0 }; label = None; weight = pos 0 }
 
 module _ (net : Plan) (table : Graph) (to : PointId) (slots : List Slot) (width : ℕ) (row : IsRowAgainst net table to slots width) (edge : Edge) (column : ℕ) (is : IsOfRow net table to edge column) where
-  entry_left : (entry : Entry) → IsHeld table edge entry → IsMetIn slots width edge column entry → fold offered slots (after_entry edge entry) ≡ slots
+  entry_left : (entry : Entry) → IsHeld table edge entry → IsSaturatedIn slots width edge column entry → fold relaxed slots (after_entry edge entry) ≡ slots
   entry_left entry has met = by (is_ordinary entry) refl
     where
-      by : (b : Bool) → is_ordinary entry ≡ b → fold offered slots (cond b (from_first edge (edge_into edge.from entry)) []) ≡ slots
+      by : (b : Bool) → is_ordinary entry ≡ b → fold relaxed slots (cond b (from_first edge (edge_into edge.from entry)) []) ≡ slots
       by false other = refl
       by true ordinary =
           let place = first_place net table to slots width row edge column is (edge_into edge.from entry) has in
-          sym (first_left net table to slots width row edge column is (edge_into edge.from entry) has no_slot (met ordinary (get_or slots (place_in_slots width entry.from column) no_slot) (slice_get-get_or slots (place_in_slots width entry.from column) no_slot place)))
+          sym (first_unchanged net table to slots width row edge column is (edge_into edge.from entry) has no_slot
+          (met ordinary (get_or slots (place_in_slots width entry.from column) no_slot) (slice_get-get_or slots (place_in_slots width entry.from column) no_slot place)))
 
-  -- nothing that follows with edges that are met changes the row
-  pub block_left : (entries : List Entry) → ((i : ℕ) → i < length entries → IsHeld table edge (get_or entries i no_entry)) → ((i : ℕ) → i < length entries → IsMetIn slots width edge column (get_or entries i no_entry)) → fold offered slots (flat_map (after_entry edge) entries) ≡ slots
+  -- nothing that follows with saturated edges changes the row
+  pub block_left : (entries : List Entry) → ((i : ℕ) → i < length entries → IsHeld table edge (get_or entries i no_entry)) → ((i : ℕ) → i < length entries → IsSaturatedIn slots width edge column (get_or entries i no_entry))
+      → fold relaxed slots (flat_map (after_entry edge) entries) ≡ slots
   block_left [] held met = refl
   block_left (entry ∷ entries) held met =
-      let first : fold offered slots (after_entry edge entry) ≡ slots = entry_left entry (held 0 (omega arith)) (met 0 (omega arith)) in
-      let rest : fold offered slots (flat_map (after_entry edge) entries) ≡ slots = block_left entries (λ i below. held (suc i) (omega (arith, below))) (λ i below. met (suc i) (omega (arith, below))) in
-      fold-append offered slots (after_entry edge entry) (flat_map (after_entry edge) entries) ∙ (ap (λ (s : List Slot). fold offered s (flat_map (after_entry edge) entries)) first ∙ rest)
+      let first : fold relaxed slots (after_entry edge entry) ≡ slots = entry_left entry (held 0 (omega arith)) (met 0 (omega arith)) in
+      let rest : fold relaxed slots (flat_map (after_entry edge) entries) ≡ slots = block_left entries (λ i below. held (suc i) (omega (arith, below))) (λ i below. met (suc i) (omega (arith, below))) in
+      fold-append relaxed slots (after_entry edge entry) (flat_map (after_entry edge) entries) ∙ (ap (λ (s : List Slot). fold relaxed s (flat_map (after_entry edge) entries)) first ∙ rest)
 
-pub block_offers_nothing : (basis : Basis) (self : OpenRow) (edge : Edge) (column : ℕ) (entries : List Entry) → IsOffering basis self edge column → All (IsHeld basis.table.now edge) entries → All (IsMetIn self.slots self.width edge column) entries
-    → HasOffered self self (flat_map (after_entry edge) entries)
-block_offers_nothing basis self edge column entries is held met = record {
+pub block_relaxes_nothing : (basis : Basis) (self : OpenRow) (edge : Edge) (column : ℕ) (entries : List Entry) → IsRelaxing basis self edge column → All (IsHeld basis.table.now edge) entries
+    → All (IsSaturatedIn self.slots self.width edge column) entries
+    → HasRelaxed self self (flat_map (after_entry edge) entries)
+block_relaxes_nothing basis self edge column entries is held met = record {
   slots = sym (block_left basis.net.now basis.table.now edge.to self.slots self.width is.slots edge column is.of_row entries
-      (λ i below. All-get_or (IsHeld basis.table.now edge) entries i no_entry below held) (λ i below. All-get_or (IsMetIn self.slots self.width edge column) entries i no_entry below met));
+      (λ i below. All-get_or (IsHeld basis.table.now edge) entries i no_entry below held) (λ i below. All-get_or (IsSaturatedIn self.slots self.width edge column) entries i no_entry below met));
   queue = keeps_itself self.slots self.queue;
   width = refl;
 }
@@ -85,21 +89,22 @@ block_offers_nothing basis self edge column entries is held met = record {
 not_less : (w old : ℤ) → old ≤ℤ w → int_lt w old ≡ false
 not_less w old most = grind (arith, ints)
 
--- what a slot holds at a weight that is no greater than the way over both edges is met
-pub held_is_met : (slot : Slot) (weight : ℤ) → IsSomeAnd slot.weight (λ held. held ≤ℤ weight) → has_above slot weight ≡ false
-held_is_met slot weight some = by slot.weight some
+-- what has a slot at a weight that is no greater than the candidate over both edges is saturated
+pub held_is_saturated : (slot : Slot) (weight : ℤ) → IsSomeAnd slot.weight (λ held. held ≤ℤ weight) → has_above slot weight ≡ false
+held_is_saturated slot weight some = by slot.weight some
   where
     by : (o : Option ℤ) → IsSomeAnd o (λ held. held ≤ℤ weight) → option_map_or (λ old. int_lt weight old) o true ≡ false
     by None none = absurd none
     by (Some held) most = not_less weight held most
 
 -- what the words of a block say of an entry in it
-pub words_meet : (table : Graph) (slots : List Slot) (width : ℕ) (edge : Edge) (column : ℕ) (word : ℤ) (entry : Entry) → ((slot : Slot) → slice_get slots (place_in_slots width entry.from column) ≡ Some slot → StandsFor word slot.weight) → IsHeld table edge entry
-    → MeetsHeld (weight_of table (ordinary_key entry.from edge.from)) (held word) edge.weight → IsMetIn slots width edge column entry
+pub words_meet : (table : Graph) (slots : List Slot) (width : ℕ) (edge : Edge) (column : ℕ) (word : ℤ) (entry : Entry) → ((slot : Slot) → slice_get slots (place_in_slots width entry.from column) ≡ Some slot → StandsFor word slot.weight)
+    → IsHeld table edge entry
+    → SaturatesHeld (weight_of table (ordinary_key entry.from edge.from)) (held word) edge.weight → IsSaturatedIn slots width edge column entry
 words_meet table slots width edge column word entry stands is_held met = λ ordinary slot here.
     let has : weight_of table (ordinary_key entry.from edge.from) ≡ Some entry.weight = of_ordinary entry.label refl ordinary in
-    let below : MeetsHeld (Some entry.weight) (held word) edge.weight = subst (λ (o : Option ℤ). MeetsHeld o (held word) edge.weight) has met in
-    held_is_met slot (joined_weight (edge_into edge.from entry) edge) (by slot.weight (int_eq word absent) refl (stands slot here) below)
+    let below : SaturatesHeld (Some entry.weight) (held word) edge.weight = subst (λ (o : Option ℤ). SaturatesHeld o (held word) edge.weight) has met in
+    held_is_saturated slot (joined_weight (edge_into edge.from entry) edge) (by slot.weight (int_eq word absent) refl (stands slot here) below)
   where
     of_ordinary : (label : Option ℕ) → entry.label ≡ label → is_none label ≡ true → weight_of table (ordinary_key entry.from edge.from) ≡ Some entry.weight
     of_ordinary None is ordinary = subst (λ (label : Option ℕ). weight_of table (record { to = edge.from; from = entry.from; label = wide_label label }) ≡ Some entry.weight) is is_held
@@ -109,7 +114,8 @@ words_meet table slots width edge column word entry stands is_held met = λ ordi
     weaker None low high more some = some
     weaker (Some w) low high more some = le_then w low high some more
 
-    by : (weight : Option ℤ) (gone : Bool) → int_eq word absent ≡ gone → StandsFor word weight → IsSomeAnd (cond gone None (Some word)) (λ other. other ≤ℤ (int_max entry.weight (pos 0) +ℤ edge.weight)) → IsSomeAnd weight (λ one. one ≤ℤ (int_max entry.weight (pos 0) +ℤ edge.weight))
+    by : (weight : Option ℤ) (gone : Bool) → int_eq word absent ≡ gone → StandsFor word weight → IsSomeAnd (cond gone None (Some word)) (λ other. other ≤ℤ (int_max entry.weight (pos 0) +ℤ edge.weight))
+        → IsSomeAnd weight (λ one. one ≤ℤ (int_max entry.weight (pos 0) +ℤ edge.weight))
     by weight true gone stood some = absurd some
     by weight false present stood most = weaker weight word (int_max entry.weight (pos 0) +ℤ edge.weight) most (stood (λ same. let itself : int_eq word absent ≡ true = grind (arith, ints) in absurd cc))
 
@@ -171,73 +177,79 @@ entry_is first edge before =
     let point : edge.from ≡ first.to = λ i. record { 0 = sym meeting i } in
     λ i. record { from = first.from; to = point i; label = sym ordinary i; weight = first.weight }
 
--- where no word of the column falls, all edges that go before the edge are met
-pub column_met : (net : Plan) (table : Graph) (to : PointId) (slots : List Slot) (width : ℕ) (edge : Edge) (column : ℕ) (words : List ℤ) → IsRowAgainst net table to slots width → IsOfRow net table to edge column
+-- if no word of the column improves, all edges that go before the edge are saturated
+pub column_saturated : (net : Plan) (table : Graph) (to : PointId) (slots : List Slot) (width : ℕ) (edge : Edge) (column : ℕ) (words : List ℤ) → IsRowAgainst net table to slots width → IsOfRow net table to edge column
     → ((head slot : Slot) (other : ℕ) → slice_get slots column ≡ Some head → slice_get slots other ≡ Some slot → slot.label ≡ head.label → StandsFor (get_or words slot.from.0 (pos 0)) slot.weight)
-    → ((first : PointId) → first.0 < table.shape.points → MeetsHeld (weight_of table (ordinary_key first edge.from)) (held (get_or words first.0 (pos 0))) edge.weight) → AllAreMet table slots width edge column
-column_met net table to slots width edge column words row is stand meets first has before slot here =
+    → ((first : PointId) → first.0 < table.shape.points → SaturatesHeld (weight_of table (ordinary_key first edge.from)) (held (get_or words first.0 (pos 0))) edge.weight) → AllAreSaturated table slots width edge column
+column_saturated net table to slots width edge column words row is stand meets first has before slot here =
     let inside = (row.sound.keys first has).from_point in
     words_meet table slots width edge column (get_or words first.from.0 (pos 0)) (entry_of first) (λ one at. words_of_column net table to slots width row edge column is words stand first.from one inside at)
     (subst (HasEdge table) (sym (entry_is first edge before)) has) (meets first.from inside) refl slot here
 
 -- nothing that follows with such edges changes the row
-module _ (net : Plan) (table : Graph) (to : PointId) (slots : List Slot) (width : ℕ) (row : IsRowAgainst net table to slots width) (edge : Edge) (column : ℕ) (is : IsOfRow net table to edge column) (met : AllAreMet table slots width edge column) where
-  vain_left : (first : Edge) → HasEdge table first → fold offered slots (from_first edge first) ≡ slots
+module _ (net : Plan) (table : Graph) (to : PointId) (slots : List Slot) (width : ℕ) (row : IsRowAgainst net table to slots width) (edge : Edge) (column : ℕ) (is : IsOfRow net table to edge column)
+    (met : AllAreSaturated table slots width edge column) where
+  vain_left : (first : Edge) → HasEdge table first → fold relaxed slots (from_first edge first) ≡ slots
   vain_left first has = by (goes_before first edge) refl
     where
       nothing : (why : Why) (o : Option Edge) → ((one : Edge) → o ≡ Some one → ⊥) → given why o ≡ []
       nothing why None none = refl
       nothing why (Some one) none = absurd (none one refl)
 
-      by : (b : Bool) → goes_before first edge ≡ b → fold offered slots (from_first edge first) ≡ slots
+      by : (b : Bool) → goes_before first edge ≡ b → fold relaxed slots (from_first edge first) ≡ slots
       by true before =
           let place = first_place net table to slots width row edge column is first has in
-          sym (first_left net table to slots width row edge column is first has no_slot (met first has before (get_or slots (place_in_slots width first.from column) no_slot) (slice_get-get_or slots (place_in_slots width first.from column) no_slot place)))
+          sym (first_unchanged net table to slots width row edge column is first has no_slot (met first has before (get_or slots (place_in_slots width first.from column) no_slot)
+          (slice_get-get_or slots (place_in_slots width first.from column) no_slot place)))
       by false out =
-          let no : given (No first edge) (no_case first edge) ≡ [] = nothing (No first edge) (no_case first edge) (λ one gave. (let gives = no_case_gives first edge one gave in let clash : true ≡ false = sym (before_is first edge gives.first_ordinary gives.meeting) ∙ out in absurd cc)) in
-          let up : given (Up first edge) (upper_case first edge) ≡ [] = nothing (Up first edge) (upper_case first edge) (λ one gave. (let gives = upper_case_gives first edge one gave in let clash : true ≡ false = sym (before_is first edge gives.first_ordinary gives.meeting) ∙ out in absurd cc)) in
-          λ i. fold offered slots (no i ++ up i)
+          let no : given (No first edge) (no_case first edge) ≡ [] = nothing (No first edge) (no_case first edge)
+          (λ one gave. (let gives = no_case_gives first edge one gave in let clash : true ≡ false = sym (before_is first edge gives.first_ordinary gives.meeting) ∙ out in absurd cc)) in
+          let up : given (Up first edge) (upper_case first edge) ≡ [] = nothing (Up first edge) (upper_case first edge)
+          (λ one gave. (let gives = upper_case_gives first edge one gave in let clash : true ≡ false = sym (before_is first edge gives.first_ordinary gives.meeting) ∙ out in absurd cc)) in
+          λ i. fold relaxed slots (no i ++ up i)
 
-  pub all_left : (firsts : List Edge) → ((i : ℕ) → i < length firsts → HasEdge table (get_or firsts i no_edge)) → fold offered slots (flat_map (from_first edge) firsts) ≡ slots
+  pub all_left : (firsts : List Edge) → ((i : ℕ) → i < length firsts → HasEdge table (get_or firsts i no_edge)) → fold relaxed slots (flat_map (from_first edge) firsts) ≡ slots
   all_left [] held = refl
   all_left (first ∷ firsts) held =
-      fold-append offered slots (from_first edge first) (flat_map (from_first edge) firsts)
-      ∙ (ap (λ (s : List Slot). fold offered s (flat_map (from_first edge) firsts)) (vain_left first (held 0 (omega arith))) ∙ all_left firsts (λ i below. held (suc i) (omega (arith, below))))
+      fold-append relaxed slots (from_first edge first) (flat_map (from_first edge) firsts)
+      ∙ (ap (λ (s : List Slot). fold relaxed s (flat_map (from_first edge) firsts)) (vain_left first (held 0 (omega arith))) ∙ all_left firsts (λ i below. held (suc i) (omega (arith, below))))
 
-pub vain_offers : (basis : Basis) (self : OpenRow) (edge : Edge) (column : ℕ) (firsts : List Edge) → IsOffering basis self edge column → All (HasEdge basis.table.now) firsts → AllAreMet basis.table.now self.slots self.width edge column
-    → HasOffered self self (flat_map (from_first edge) firsts)
-vain_offers basis self edge column firsts is held met = record {
+pub vain_relaxations : (basis : Basis) (self : OpenRow) (edge : Edge) (column : ℕ) (firsts : List Edge) → IsRelaxing basis self edge column → All (HasEdge basis.table.now) firsts
+    → AllAreSaturated basis.table.now self.slots self.width edge column
+    → HasRelaxed self self (flat_map (from_first edge) firsts)
+vain_relaxations basis self edge column firsts is held met = record {
   slots = sym (all_left basis.net.now basis.table.now edge.to self.slots self.width is.slots edge column is.of_row met firsts (λ i below. All-get_or (HasEdge basis.table.now) firsts i no_edge below held));
   queue = keeps_itself self.slots self.queue;
   width = refl;
 }
 
 -- ---- block after block
--- what follows with the entries before one was offered
-pub record IsOfferedTo (edge : Edge) (entries : List Entry) (at : ℕ) (was now : OpenRow) : Type 0 where
+-- what follows with the entries before one was relaxed
+pub record IsRelaxedTo (edge : Edge) (entries : List Entry) (at : ℕ) (was now : OpenRow) : Type 0 where
   pub done : List Made
-  pub offered : HasOffered was now done
+  pub relaxed : HasRelaxed was now done
   pub rest : done ++ flat_map (after_entry edge) (drop at entries) ≡ flat_map (after_entry edge) entries
 
-pub offered_none : (edge : Edge) (entries : List Entry) (row : OpenRow) → IsOfferedTo edge entries 0 row row
-offered_none edge entries row = record { done = []; offered = offers_nothing row; rest = ap (flat_map (after_entry edge)) (drop_none entries) }
+pub relaxed_none : (edge : Edge) (entries : List Entry) (row : OpenRow) → IsRelaxedTo edge entries 0 row row
+relaxed_none edge entries row = record { done = []; relaxed = relaxes_nothing row; rest = ap (flat_map (after_entry edge)) (drop_none entries) }
   where
     drop_none : (xs : List Entry) → drop 0 xs ≡ xs
     drop_none [] = refl
     drop_none (x ∷ xs) = refl
 
-pub offered_more : (edge : Edge) (entries : List Entry) (at end : ℕ) (was middle now : OpenRow) → at ≤ end → IsOfferedTo edge entries at was middle → HasOffered middle now (flat_map (after_entry edge) (slice_range entries at end)) → IsOfferedTo edge entries end was now
-offered_more edge entries at end was middle now more before block = record {
+pub relaxed_more : (edge : Edge) (entries : List Entry) (at end : ℕ) (was middle now : OpenRow) → at ≤ end → IsRelaxedTo edge entries at was middle → HasRelaxed middle now (flat_map (after_entry edge) (slice_range entries at end))
+    → IsRelaxedTo edge entries end was now
+relaxed_more edge entries at end was middle now more before block = record {
   done = before.done ++ flat_map (after_entry edge) (slice_range entries at end);
-  offered = offers_then was middle now before.done (flat_map (after_entry edge) (slice_range entries at end)) before.offered block;
+  relaxed = relaxes_then was middle now before.done (flat_map (after_entry edge) (slice_range entries at end)) before.relaxed block;
   rest =
       append_assoc before.done (flat_map (after_entry edge) (slice_range entries at end)) (flat_map (after_entry edge) (drop end entries))
       ∙ (ap (λ (list : List Made). before.done ++ list) (sym (flat_map-append (after_entry edge) (slice_range entries at end) (drop end entries)) ∙ ap (flat_map (after_entry edge)) (sym (drop_split entries at end more))) ∙ before.rest);
 }
 
-pub offered_all : (edge : Edge) (entries : List Entry) (at : ℕ) (was now : OpenRow) → length entries ≤ at → IsOfferedTo edge entries at was now → HasOffered was now (flat_map (after_entry edge) entries)
-offered_all edge entries at was now past all =
-    subst (HasOffered was now) (sym (append-nil all.done) ∙ (ap (λ (list : List Entry). all.done ++ flat_map (after_entry edge) list) (sym (drop_past entries at past)) ∙ all.rest)) all.offered
+pub relaxed_all : (edge : Edge) (entries : List Entry) (at : ℕ) (was now : OpenRow) → length entries ≤ at → IsRelaxedTo edge entries at was now → HasRelaxed was now (flat_map (after_entry edge) entries)
+relaxed_all edge entries at was now past all =
+    subst (HasRelaxed was now) (sym (append-nil all.done) ∙ (ap (λ (list : List Entry). all.done ++ flat_map (after_entry edge) list) (sym (drop_past entries at past)) ∙ all.rest)) all.relaxed
   where
     drop_past : (xs : List Entry) (k : ℕ) → length xs ≤ k → drop k xs ≡ []
     drop_past [] zero past = refl

@@ -1,5 +1,6 @@
 -- The slots of a row as a table has it: what is stored for each key, entry after entry.
-use Rattle.std.proofs.Common.{◌≡◌, ◌≢◌, ◌==◌, ◌&&◌, ◌⊎◌, ◌≤◌, ◌<◌, ◌+◌, ◌*◌, ◌/◌, ◌%◌, ◌^◌, ℕ, zero, suc, ℤ, pos, Bool, true, false, cond, List, [], ◌∷◌, length, map, replicate, get_or, Option, Some, None, IfSome, refl, ap, sym, subst, ◌∙◌, inl, inr, arith}
+use Rattle.std.proofs.Common.{◌≡◌, ◌≢◌, ◌==◌, ◌&&◌, ◌⊎◌, ◌≤◌, ◌<◌, ◌+◌, ◌*◌, ◌/◌, ◌%◌, ◌^◌, ℕ, zero, suc, ℤ, pos, Bool, true, false, cond, List, [], ◌∷◌, length, map, replicate, get_or, Option, Some, None, IfSome, refl, ap, sym, subst, ◌∙◌}
+use Rattle.std.proofs.Common.{inl, inr, arith}
 use Rattle.std.specs.Prelude.{slice_get, slice_set}
 use Rattle.std.specs.List.{Contains}
 use Rattle.std.specs.Option.{option_map}
@@ -26,10 +27,10 @@ use Rattle.closure_model.proofs.TableLemmas.{edge_listed}
 use Rattle.closure_model.proofs.Weights.{same_weight}
 use Rattle.labelled_graph.specs.Entries.{edge_into, wide_label}
 use Rattle.labelled_graph.specs.declared.entry.Entry.{Entry}
-use Rattle.back_propagation.specs.Offering.{HasColumn, IsColumnOf, place_in_slots, width_of}
-use Rattle.back_propagation.specs.SlimSlots.{no_weight, stored, stored_of, weight_in, why_in, label_in, greatest_word, StandsFor, StandForKeys, IsSlim, slot_in, slots_of, width_in, word_place}
+use Rattle.back_propagation.specs.SlotPlaces.{HasColumn, IsColumnOf, place_in_slots, width_of}
+use Rattle.back_propagation.specs.SlimSlots.{no_weight, stored, stored_of, weight_in_slot, why_in, label_in, greatest_word, StandsFor, StandForKeys, IsSlim, slot_in, slots_of, width_in, word_place}
 use Rattle.back_propagation.specs.declared.slots.Slots.TheInside.{Inside}
-use Rattle.back_propagation.proofs.OfferSteps.{place_under, width_under}
+use Rattle.back_propagation.proofs.RelaxSteps.{place_under, width_under}
 use Rattle.back_propagation.proofs.RowPlaces.{row_at, at_column, column_inside, column_of_place, source_of_place, length-row_keys}
 use Rattle.back_propagation.proofs.SlimSteps.{places_apart, read_other, read_set, same_or_apart, set_long}
 
@@ -71,7 +72,8 @@ places_under table to width sound wide =
     omega (arith, most)
 
 -- the key of an entry stands at its place
-pub entry_place : (table : Graph) (to : PointId) (labels : List LinkId) (entry : Entry) (column : ℕ) → labels ≡ labels_at table.shape to → IsGraph table → HasEdge table (edge_into to entry) → IsColumnOf labels (wide_label entry.label) column
+pub entry_place : (table : Graph) (to : PointId) (labels : List LinkId) (entry : Entry) (column : ℕ) → labels ≡ labels_at table.shape to → IsGraph table → HasEdge table (edge_into to entry)
+    → IsColumnOf labels (wide_label entry.label) column
     → slice_get (row_keys table.shape to) (place_in_slots (length labels + 1) entry.from column) ≡ Some (key_of (edge_into to entry))
 entry_place table to labels entry column are sound held is =
     let has : HasColumn table.shape to (wide_label entry.label) column = subst (λ (ls : List LinkId). IsColumnOf ls (wide_label entry.label) column) are is in
@@ -79,7 +81,8 @@ entry_place table to labels entry column are sound held is =
     ap (λ (w : ℕ). slice_get (row_keys table.shape to) (entry.from.0 * w + column)) wide
     ∙ (row_at table.shape to entry.from column (sound.keys (edge_into to entry) held).from_point (column_inside table.shape to (wide_label entry.label) column has) ∙ at_column table.shape to entry.from (wide_label entry.label) column has)
 
-pub entry_under : (table : Graph) (to : PointId) (labels : List LinkId) (entry : Entry) (column : ℕ) → labels ≡ labels_at table.shape to → IsGraph table → HasEdge table (edge_into to entry) → IsColumnOf labels (wide_label entry.label) column
+pub entry_under : (table : Graph) (to : PointId) (labels : List LinkId) (entry : Entry) (column : ℕ) → labels ≡ labels_at table.shape to → IsGraph table → HasEdge table (edge_into to entry)
+    → IsColumnOf labels (wide_label entry.label) column
     → place_in_slots (length labels + 1) entry.from column < 2 ^ 64
 entry_under table to labels entry column are sound held is =
     let has : HasColumn table.shape to (wide_label entry.label) column = subst (λ (ls : List LinkId). IsColumnOf ls (wide_label entry.label) column) are is in
@@ -225,7 +228,8 @@ module _ (table : Graph) (to : PointId) (entries : List Entry) (held : (k : ℕ)
 pub stand_none : (table : Graph) (to : PointId) (words : List ℤ) (count : ℕ) → words ≡ replicate count greatest_word → count ≡ length (row_keys table.shape to) → StandForKeys table to words
 stand_none table to words count are many = (
   ap length are ∙ (long_replicate count greatest_word ∙ many),
-  λ place key at other. absurd (other (greatest (place % width_of table.shape to * table.shape.points + place / width_of table.shape to) (let inside = slice_get_within (row_keys table.shape to) place key at in let all = length-row_keys table.shape to in column_word place (subst (λ (n : ℕ). place < n) all inside)))),
+  λ place key at other. absurd (other (greatest (place % width_of table.shape to * table.shape.points + place / width_of table.shape to) (let inside = slice_get_within (row_keys table.shape to) place key at in
+      let all = length-row_keys table.shape to in column_word place (subst (λ (n : ℕ). place < n) all inside)))),
 )
   where
     column_word : (place : ℕ) → place < table.shape.points * width_of table.shape to → place % width_of table.shape to * table.shape.points + place / width_of table.shape to < length words
@@ -238,7 +242,8 @@ stand_none table to words count are many = (
     greatest : (k : ℕ) → k < length words → get_or words k (pos 0) ≡ greatest_word
     greatest k below = ap (λ (list : List ℤ). get_or list k (pos 0)) are ∙ replicated count k greatest_word (pos 0) (let long : length words ≡ count = ap length are ∙ long_replicate count greatest_word in omega (arith, below, long))
 
-pub stand_more : (table : Graph) (to : PointId) (words : List ℤ) (entry : Entry) (column place : ℕ) (word : ℤ) → column < width_of table.shape to → place ≡ place_in_slots (width_of table.shape to) entry.from column → slice_get (row_keys table.shape to) place ≡ Some (key_of (edge_into to entry))
+pub stand_more : (table : Graph) (to : PointId) (words : List ℤ) (entry : Entry) (column place : ℕ) (word : ℤ) → column < width_of table.shape to → place ≡ place_in_slots (width_of table.shape to) entry.from column
+    → slice_get (row_keys table.shape to) place ≡ Some (key_of (edge_into to entry))
     → HasEdge table (edge_into to entry) → StandsFor word (Some entry.weight) → StandForKeys table to words → StandForKeys table to (slice_set words (column * table.shape.points + entry.from.0) word)
 stand_more table to words entry column place word inside is at held stands (long, was) = (set_long words (column * table.shape.points + entry.from.0) word ∙ long, λ other key there. by other key there (same_or_apart other place))
   where
@@ -261,18 +266,21 @@ stand_more table to words entry column place word inside is at held stands (long
         let under = place_word table.shape to place below in
         let key_is : key_of (edge_into to entry) ≡ key = same_Some (key_of (edge_into to entry)) key (sym at ∙ (ap (slice_get (row_keys table.shape to)) (sym equal) ∙ there)) in
         let weight : weight_of table key ≡ Some entry.weight = ap (weight_of table) (sym key_is) ∙ held in
-        let place_is : other % width_of table.shape to * table.shape.points + other / width_of table.shape to ≡ column * table.shape.points + entry.from.0 = ap (λ (k : ℕ). k % width_of table.shape to * table.shape.points + k / width_of table.shape to) equal ∙ here in
+        let place_is : other % width_of table.shape to * table.shape.points + other / width_of table.shape to ≡ column * table.shape.points + entry.from.0 =
+        ap (λ (k : ℕ). k % width_of table.shape to * table.shape.points + k / width_of table.shape to) equal ∙ here in
         let read : get_or (slice_set words (column * table.shape.points + entry.from.0) word) (other % width_of table.shape to * table.shape.points + other / width_of table.shape to) (pos 0) ≡ word =
         ap (λ (k : ℕ). get_or (slice_set words (column * table.shape.points + entry.from.0) word) k (pos 0)) place_is ∙ read_set words (column * table.shape.points + entry.from.0) word (pos 0) (omega (arith, under, here, long, all)) in
         subst (λ (w : ℤ). StandsFor w (weight_of table key)) (sym read) (subst (StandsFor word) (sym weight) stands)
     by other key there (inr apart) =
         let below : place < table.shape.points * width_of table.shape to = subst (λ (n : ℕ). place < n) all (slice_get_within (row_keys table.shape to) place (key_of (edge_into to entry)) at) in
         let also : other < table.shape.points * width_of table.shape to = subst (λ (n : ℕ). other < n) all (slice_get_within (row_keys table.shape to) other key there) in
-        let others : other % width_of table.shape to * table.shape.points + other / width_of table.shape to ≢ column * table.shape.points + entry.from.0 = λ same. apart (places_apart table.shape.points (width_of table.shape to) other place also below (same ∙ sym here)) in
-        subst (λ (w : ℤ). StandsFor w (weight_of table key)) (sym (read_other words (column * table.shape.points + entry.from.0) (other % width_of table.shape to * table.shape.points + other / width_of table.shape to) word (pos 0) others)) (was other key there)
+        let others : other % width_of table.shape to * table.shape.points + other / width_of table.shape to ≢ column * table.shape.points + entry.from.0 =
+        λ same. apart (places_apart table.shape.points (width_of table.shape to) other place also below (same ∙ sym here)) in
+        subst (λ (w : ℤ). StandsFor w (weight_of table key)) (sym (read_other words (column * table.shape.points + entry.from.0) (other % width_of table.shape to * table.shape.points + other / width_of table.shape to) word (pos 0) others))
+        (was other key there)
 
 -- ---- the slots at the start
-stored_read : (o : Option ℤ) → ((weight : ℤ) → o ≡ Some weight → IsWeight weight) → weight_in (stored o) 0 ≡ o
+stored_read : (o : Option ℤ) → ((weight : ℤ) → o ≡ Some weight → IsWeight weight) → weight_in_slot (stored o) 0 ≡ o
 stored_read None small = refl
 stored_read (Some weight) small =
     let range = small weight refl in
@@ -295,13 +303,15 @@ same_width table to s start = ap (λ (labels : List LinkId). length labels + 1) 
 pub start_slot : (table : Graph) (to : PointId) (s : Inside) → IsGraph table → IsAtStart table to s → (k : ℕ) (key : Key) → k < length s.weights.items → slice_get (row_keys table.shape to) k ≡ Some key → first_slot table key ≡ slot_in s k
 start_slot table to s sound start k key below at =
     let from : key.from ≡ record { 0 = k / width_in s } = source_of_place table.shape to k key at ∙ ap (λ (w : ℕ). record { 0 = k / w }) (sym (same_width table to s start)) in
-    let label : label_in s.labels.items (k % width_in s) ≡ key.label = (λ i. label_in (start.labels i) (k % same_width table to s start i)) ∙ label_of_column (labels_at table.shape to) key.label (k % width_of table.shape to) (column_of_place table.shape to k key at) in
+    let label : label_in s.labels.items (k % width_in s) ≡ key.label = (λ i. label_in (start.labels i) (k % same_width table to s start i))
+    ∙ label_of_column (labels_at table.shape to) key.label (k % width_of table.shape to) (column_of_place table.shape to k key at) in
     let held : get_or s.weights.items k (pos 0) ≡ stored_of table key =
-    ap (λ (list : List ℤ). get_or list k (pos 0)) start.weights ∙ get_or_from_slice_get (map (stored_of table) (row_keys table.shape to)) k (stored_of table key) (pos 0) (slice_get-map (stored_of table) (row_keys table.shape to) k ∙ ap (option_map (stored_of table)) at) in
+    ap (λ (list : List ℤ). get_or list k (pos 0)) start.weights ∙ get_or_from_slice_get (map (stored_of table) (row_keys table.shape to)) k (stored_of table key) (pos 0) (slice_get-map (stored_of table) (row_keys table.shape to) k
+    ∙ ap (option_map (stored_of table)) at) in
     let mark : get_or s.marks.items k 0 ≡ 0 = ap (λ (list : List ℕ). get_or list k 0) start.marks ∙ replicated (length s.weights.items) k 0 0 below in
     let settled : get_or s.settled.items k false ≡ false = ap (λ (list : List Bool). get_or list k false) start.settled ∙ replicated (length s.weights.items) k false false below in
-    let weight : weight_in (get_or s.weights.items k (pos 0)) (get_or s.marks.items k 0) ≡ weight_of table key =
-    (λ i. weight_in (held i) (mark i)) ∙ stored_read (weight_of table key) (λ w has. sound.weights (edge_of key w) has) in
+    let weight : weight_in_slot (get_or s.weights.items k (pos 0)) (get_or s.marks.items k 0) ≡ weight_of table key =
+    (λ i. weight_in_slot (held i) (mark i)) ∙ stored_read (weight_of table key) (λ w has. sound.weights (edge_of key w) has) in
     let why : why_in s.whys.items (get_or s.marks.items k 0) ≡ None = λ i. why_in (start.whys i) (mark i) in
     λ i. record { from = from i; label = sym label i; weight = sym weight i; why = sym why i; settled = sym settled i }
 
@@ -327,8 +337,10 @@ start_slim table to s sound inside start = record {
     stand place below =
         let key : Key = get_or (row_keys table.shape to) place no_key in
         let at : slice_get (row_keys table.shape to) place ≡ Some (get_or (row_keys table.shape to) place no_key) = slice_get-get_or (row_keys table.shape to) place no_key (omega (arith, many, below)) in
-        let word : place % width_of table.shape to * table.shape.points + place / width_of table.shape to ≡ word_place s place = λ i. place % sym (same_width table to s start) i * sym start.points i + place / sym (same_width table to s start) i in
-        let weight : weight_of table (get_or (row_keys table.shape to) place no_key) ≡ (slot_in s place).weight = ap (λ (slot : Slot). slot.weight) (start_slot table to s sound start place (get_or (row_keys table.shape to) place no_key) below at) in
+        let word : place % width_of table.shape to * table.shape.points + place / width_of table.shape to ≡ word_place s place =
+        λ i. place % sym (same_width table to s start) i * sym start.points i + place / sym (same_width table to s start) i in
+        let weight : weight_of table (get_or (row_keys table.shape to) place no_key) ≡ (slot_in s place).weight =
+        ap (λ (slot : Slot). slot.weight) (start_slot table to s sound start place (get_or (row_keys table.shape to) place no_key) below at) in
         subst (λ (k : ℕ). StandsFor (get_or s.words.items k (pos 0)) (slot_in s place).weight) word
         (subst (StandsFor (get_or s.words.items (place % width_of table.shape to * table.shape.points + place / width_of table.shape to) (pos 0))) weight (start.words.1 place (get_or (row_keys table.shape to) place no_key) at))
 
@@ -336,15 +348,18 @@ start_slim table to s sound inside start = record {
     key_in_column : (column : ℕ) → column < width_in s → slice_get (row_keys table.shape to) column ≡ Some (record { to = to; from = record { 0 = 0 }; label = label_in s.labels.items column })
     key_in_column column below =
         let narrow : column < width_of table.shape to = subst (λ (n : ℕ). column < n) (same_width table to s start) below in
-        let stored : column < length s.weights.items = (let all = length-row_keys table.shape to in let most = mul-add-lt 0 (width_of table.shape to) column table.shape.points (omega (arith, inside)) narrow in omega (arith, many, all, most)) in
+        let stored : column < length s.weights.items = (let all = length-row_keys table.shape to in let most = mul-add-lt 0 (width_of table.shape to) column table.shape.points (omega (arith, inside)) narrow in
+        omega (arith, many, all, most)) in
         let at : slice_get (row_keys table.shape to) column ≡ Some (get_or (row_keys table.shape to) column no_key) = slice_get-get_or (row_keys table.shape to) column no_key (omega (arith, many, stored)) in
         let none : 0 * width_of table.shape to + column ≡ column = omega arith in
         let whole : column / width_of table.shape to ≡ 0 = ap (λ (n : ℕ). n / width_of table.shape to) (sym none) ∙ div-mul-add 0 (width_of table.shape to) column narrow in
         let rest : column % width_of table.shape to ≡ column = ap (λ (n : ℕ). n % width_of table.shape to) (sym none) ∙ mod-mul-add 0 (width_of table.shape to) column narrow in
-        let owner : (get_or (row_keys table.shape to) column no_key).to ≡ to = each-contained (λ k. k.to ≡ to) (row_keys table.shape to) (get_or (row_keys table.shape to) column no_key) (row_keys_owned table.shape to) (listed_at (row_keys table.shape to) column (get_or (row_keys table.shape to) column no_key) at) in
+        let owner : (get_or (row_keys table.shape to) column no_key).to ≡ to = each-contained (λ k. k.to ≡ to) (row_keys table.shape to) (get_or (row_keys table.shape to) column no_key) (row_keys_owned table.shape to)
+        (listed_at (row_keys table.shape to) column (get_or (row_keys table.shape to) column no_key) at) in
         let from : (get_or (row_keys table.shape to) column no_key).from ≡ record { 0 = 0 } = source_of_place table.shape to column (get_or (row_keys table.shape to) column no_key) at ∙ (λ i. record { 0 = whole i }) in
         let label : label_in s.labels.items column ≡ (get_or (row_keys table.shape to) column no_key).label =
-        (λ i. label_in (start.labels i) (sym rest i)) ∙ label_of_column (labels_at table.shape to) (get_or (row_keys table.shape to) column no_key).label (column % width_of table.shape to) (column_of_place table.shape to column (get_or (row_keys table.shape to) column no_key) at) in
+        (λ i. label_in (start.labels i) (sym rest i)) ∙ label_of_column (labels_at table.shape to) (get_or (row_keys table.shape to) column no_key).label (column % width_of table.shape to)
+        (column_of_place table.shape to column (get_or (row_keys table.shape to) column no_key) at) in
         at ∙ (λ i. Some (record { to = owner i; from = from i; label = sym label i }))
 
     apart : (one other : ℕ) → one < width_in s → other < width_in s → label_in s.labels.items one ≡ label_in s.labels.items other → one ≡ other

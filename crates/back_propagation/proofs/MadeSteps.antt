@@ -1,4 +1,4 @@
--- The edges that are held, with one more, and what is read of them.
+-- The edges that are stored, with one more, and what is read of them.
 use Rattle.std.proofs.Common.{◌≡◌, ◌+◌, ◌∙◌, ℕ, Some, List, [], ◌∷◌, ◌++◌, length, map, take, refl, ap}
 use Rattle.std.specs.List.{All}
 use Rattle.std.specs.Prelude.{slice_get}
@@ -9,11 +9,11 @@ use Rattle.std.proofs.lemmas.Option.{slice_get_within, get_or_from_slice_get}
 use Rattle.net_model.specs.declared.ids.PointId.{PointId}
 use Rattle.closure_model.specs.declared.rows.Made.{Made}
 use Rattle.back_propagation.specs.MadeEdges.{no_made, held_made, made_edges, IsHeld, AreHeld}
-use Rattle.back_propagation.specs.declared.made.Held.{Held}
-use Rattle.back_propagation.specs.declared.made.Held.TheVariants.{Short, Whole}
-use Rattle.back_propagation.specs.declared.made.MadeEdges.TheInside.{Inside}
+use Rattle.back_propagation.specs.declared.made_edges.Held.{Held}
+use Rattle.back_propagation.specs.declared.made_edges.Held.TheVariants.{Short, Whole}
+use Rattle.back_propagation.specs.declared.made_edges.MadeEdges.TheInside.{Inside}
 
--- one more edge that is kept whole changes none that is held
+-- one more edge that is stored whole changes none that is stored
 kept : (target : PointId) (whole : List Made) (one : Made) (held : Held) → IsHeld (length whole) held → held_made target (whole ++ one ∷ []) held ≡ held_made target whole held
 kept target whole one (Short short) here = refl
 kept target whole one (Whole place) here = get_or_append_left whole (one ∷ []) no_made place here
@@ -24,7 +24,8 @@ all_kept target whole one (x ∷ held) here =
     λ i. kept target whole one x (All-head (IsHeld (length whole)) x held here) i ∷ all_kept target whole one held (All-tail (IsHeld (length whole)) x held here) i
 
 -- one more edge, by the fields after it
-pub pushed_short : (before after : Inside) (held : Held) (one : Made) → after.target ≡ before.target → after.whole.items ≡ before.whole.items → after.held.items ≡ before.held.items ++ held ∷ [] → held_made before.target before.whole.items held ≡ one
+pub pushed_short : (before after : Inside) (held : Held) (one : Made) → after.target ≡ before.target → after.whole.items ≡ before.whole.items → after.held.items ≡ before.held.items ++ held ∷ []
+    → held_made before.target before.whole.items held ≡ one
     → made_edges after ≡ made_edges before ++ one ∷ []
 pushed_short before after held one target whole more is =
     (λ i. map (held_made (target i) (whole i)) (more i))

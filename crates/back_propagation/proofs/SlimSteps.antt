@@ -1,5 +1,6 @@
 -- The slots of a row as they are stored: what is read of them, and what the change of one changes.
-use Rattle.std.proofs.Common.{◌≡◌, ◌≢◌, ◌==◌, ◌&&◌, ◌||◌, ◌⊎◌, ◌≤◌, ◌<◌, ◌+◌, ◌*◌, ◌/◌, ◌%◌, ◌^◌, ℕ, zero, suc, ℤ, pos, Bool, true, false, cond, List, [], ◌∷◌, ◌++◌, length, get_or, Some, None, refl, ap, sym, subst, ◌∙◌, inl, inr, arith, length-append}
+use Rattle.std.proofs.Common.{◌≡◌, ◌≢◌, ◌==◌, ◌&&◌, ◌||◌, ◌⊎◌, ◌≤◌, ◌<◌, ◌+◌, ◌*◌, ◌/◌, ◌%◌, ◌^◌, ℕ, zero, suc, ℤ, pos, Bool, true, false, cond, List, [], ◌∷◌, ◌++◌, length, get_or, Some, None, refl, ap, sym, subst, ◌∙◌, inl, inr, arith}
+use Rattle.std.proofs.Common.{length-append}
 use Rattle.std.specs.Prelude.{slice_get, slice_set, slice_range, int_lt}
 use Rattle.std.specs.Option.{option_map_or}
 use Rattle.std.specs.Ordering.{int_eq}
@@ -18,7 +19,7 @@ use Rattle.closure_model.specs.declared.rows.Why.{Why}
 use Rattle.std.specs.Prelude.{◌≤ℤ◌}
 use Rattle.std.proofs.lemmas.Int.{ints}
 use Rattle.labelled_graph.specs.Words.{absent, least_word, nearest_word}
-use Rattle.back_propagation.specs.SlimSlots.{no_weight, weight_in, why_in, label_in, slot_in, slots_of, width_in, word_place, StandsFor, IsSlim}
+use Rattle.back_propagation.specs.SlimSlots.{no_weight, weight_in_slot, why_in, label_in, slot_in, slots_of, width_in, word_place, StandsFor, IsSlim}
 use Rattle.back_propagation.specs.declared.slots.Slots.TheInside.{Inside}
 
 -- ---- the nearest word of a weight stands for it
@@ -101,7 +102,7 @@ or_false true = refl
 or_false false = refl
 
 -- a weight is below what is stored, or none is stored
-pub above_in : (weight held : ℤ) (mark : ℕ) → option_map_or (λ old. int_lt weight old) (weight_in held mark) true ≡ (int_lt weight held || (int_eq held no_weight && mark == 0))
+pub above_in : (weight held : ℤ) (mark : ℕ) → option_map_or (λ old. int_lt weight old) (weight_in_slot held mark) true ≡ (int_lt weight held || (int_eq held no_weight && mark == 0))
 above_in weight held mark = by (int_eq held no_weight && mark == 0)
   where
     by : (b : Bool) → option_map_or (λ old. int_lt weight old) (cond b None (Some held)) true ≡ (int_lt weight held || b)
@@ -165,7 +166,7 @@ and_false : (a : Bool) → (a && false) ≡ false
 and_false true = refl
 and_false false = refl
 
-weight_lowered : (weight : ℤ) (mark k : ℕ) → mark ≡ suc k → weight_in weight mark ≡ Some weight
+weight_lowered : (weight : ℤ) (mark k : ℕ) → mark ≡ suc k → weight_in_slot weight mark ≡ Some weight
 weight_lowered weight mark k is =
     let marked : (mark == 0) ≡ false = grind (arith, nat_tests) in
     ap (λ (b : Bool). cond (int_eq weight no_weight && b) None (Some weight)) marked ∙ ap (λ (b : Bool). cond b None (Some weight)) (and_false (int_eq weight no_weight))
@@ -216,8 +217,8 @@ module _ (s t : Inside) (place : ℕ) (weight : ℤ) (why : Why) (is : IsLowered
   here =
       let mark : get_or t.marks.items place 0 ≡ suc (length s.whys.items) = mark_here ∙ more in
       let held : get_or t.weights.items place (pos 0) ≡ weight = ap (λ (weights : List ℤ). get_or weights place (pos 0)) is.weights ∙ read_set s.weights.items place weight (pos 0) inside in
-      let weight_is : weight_in (get_or t.weights.items place (pos 0)) (get_or t.marks.items place 0) ≡ Some weight =
-      ap (λ (w : ℤ). weight_in w (get_or t.marks.items place 0)) held ∙ weight_lowered weight (get_or t.marks.items place 0) (length s.whys.items) mark in
+      let weight_is : weight_in_slot (get_or t.weights.items place (pos 0)) (get_or t.marks.items place 0) ≡ Some weight =
+      ap (λ (w : ℤ). weight_in_slot w (get_or t.marks.items place 0)) held ∙ weight_lowered weight (get_or t.marks.items place 0) (length s.whys.items) mark in
       let why_is : why_in t.whys.items (get_or t.marks.items place 0) ≡ Some why = (λ i. why_in (is.whys i) (mark i)) ∙ at_push s.whys.items why in
       λ i. record { from = record { 0 = same_from place i }; label = same_label place i; weight = weight_is i; why = why_is i; settled = same_settled place i }
 
@@ -227,7 +228,7 @@ module _ (s t : Inside) (place : ℕ) (weight : ℤ) (why : Why) (is : IsLowered
       let held : get_or t.weights.items other (pos 0) ≡ get_or s.weights.items other (pos 0) = ap (λ (weights : List ℤ). get_or weights other (pos 0)) is.weights ∙ read_other s.weights.items place other weight (pos 0) apart in
       let why_is : why_in t.whys.items (get_or t.marks.items other 0) ≡ why_in s.whys.items (get_or s.marks.items other 0) =
       (λ i. why_in (is.whys i) (mark i)) ∙ why_kept s.whys.items why (get_or s.marks.items other 0) (slim.whys other) in
-      λ i. record { from = record { 0 = same_from other i }; label = same_label other i; weight = weight_in (held i) (mark i); why = why_is i; settled = same_settled other i }
+      λ i. record { from = record { 0 = same_from other i }; label = same_label other i; weight = weight_in_slot (held i) (mark i); why = why_is i; settled = same_settled other i }
 
   pub lowered_slim : IsSlim t
   lowered_slim = record {
@@ -256,7 +257,8 @@ module _ (s t : Inside) (place : ℕ) (weight : ℤ) (why : Why) (is : IsLowered
           let others : word_place s other ≢ word_place s place = λ same. apart (word_apart s slim other place stays inside same) in
           let word : get_or t.words.items (word_place t other) (pos 0) ≡ get_or s.words.items (word_place s other) (pos 0) =
           (λ i. get_or (is.words i) (word_same other i) (pos 0)) ∙ read_other s.words.items (word_place s place) (word_place s other) is.word (pos 0) others in
-          subst (λ (w : ℤ). StandsFor w (slot_in t other).weight) (sym word) (subst (StandsFor (get_or s.words.items (word_place s other) (pos 0))) (ap (λ (slot : Slot). slot.weight) (sym (there other stays apart))) (slim.stand other stays))
+          subst (λ (w : ℤ). StandsFor w (slot_in t other).weight) (sym word) (subst (StandsFor (get_or s.words.items (word_place s other) (pos 0))) (ap (λ (slot : Slot). slot.weight) (sym (there other stays apart)))
+          (slim.stand other stays))
 
       by : (other : ℕ) → (other ≡ place) ⊎ (other ≢ place) → get_or t.marks.items other 0 ≤ length t.whys.items
       by other (inl equal) = let read : get_or t.marks.items other 0 ≡ length t.whys.items = ap (λ (k : ℕ). get_or t.marks.items k 0) equal ∙ mark_here in omega arith
@@ -284,7 +286,7 @@ module _ (s t : Inside) (place : ℕ) (is : IsSettledAt s t place) (slim : IsSli
       record {
         from = record { 0 = other / (length (is.labels i) + 1) };
         label = label_in (is.labels i) (other % (length (is.labels i) + 1));
-        weight = weight_in (get_or (is.weights i) other (pos 0)) (get_or (is.marks i) other 0);
+        weight = weight_in_slot (get_or (is.weights i) other (pos 0)) (get_or (is.marks i) other 0);
         why = why_in (is.whys i) (get_or (is.marks i) other 0);
         settled = now i;
       }
@@ -298,9 +300,11 @@ module _ (s t : Inside) (place : ℕ) (is : IsSettledAt s t place) (slim : IsSli
     settled = ap length is.settled ∙ (set_long s.settled.items place true ∙ (slim.settled ∙ sym (ap length is.weights)));
     words = ap length is.words ∙ (slim.words ∙ sym (ap length is.weights));
     stand = λ other below. subst (λ (w : ℤ). StandsFor w (slot_in t other).weight) (λ i. get_or (sym is.words i) (other % (length (sym is.labels i) + 1) * sym is.points i + other / (length (sym is.labels i) + 1)) (pos 0))
-        (subst (StandsFor (get_or s.words.items (word_place s other) (pos 0))) (λ i. weight_in (get_or (sym is.weights i) other (pos 0)) (get_or (sym is.marks i) other 0)) (slim.stand other (subst (λ (list : List ℤ). other < length list) is.weights below)));
+        (subst (StandsFor (get_or s.words.items (word_place s other) (pos 0))) (λ i. weight_in_slot (get_or (sym is.weights i) other (pos 0)) (get_or (sym is.marks i) other 0))
+        (slim.stand other (subst (λ (list : List ℤ). other < length list) is.weights below)));
     apart = subst (λ (labels : List LinkId). (one other : ℕ) → one < length labels + 1 → other < length labels + 1 → label_in labels one ≡ label_in labels other → one ≡ other) (sym is.labels) slim.apart;
-    whys = λ other. (let old = slim.whys other in let mark : get_or t.marks.items other 0 ≡ get_or s.marks.items other 0 = ap (λ (marks : List ℕ). get_or marks other 0) is.marks in let many : length t.whys.items ≡ length s.whys.items = ap length is.whys in omega (arith, old, mark, many));
+    whys = λ other. (let old = slim.whys other in let mark : get_or t.marks.items other 0 ≡ get_or s.marks.items other 0 = ap (λ (marks : List ℕ). get_or marks other 0) is.marks in
+        let many : length t.whys.items ≡ length s.whys.items = ap length is.whys in omega (arith, old, mark, many));
   }
 
   pub settled_view : slots_of t ≡ slice_set (slots_of s) place (record (slot_in s place) { settled = true })
@@ -310,7 +314,8 @@ module _ (s t : Inside) (place : ℕ) (is : IsSettledAt s t place) (slim : IsSli
       (λ other below apart. but_settled other (get_or s.settled.items other false) (ap (λ (list : List Bool). get_or list other false) is.settled ∙ read_other s.settled.items place other true false apart))
 
 -- ---- the words of a column
-pub words_stand : (s : Inside) (list : List Slot) → slots_of s ≡ list → IsSlim s → (place : ℕ) → place < length list → (words : List ℤ) → words ≡ slice_range s.words.items (place % width_in s * s.points) (place % width_in s * s.points + s.points)
+pub words_stand : (s : Inside) (list : List Slot) → slots_of s ≡ list → IsSlim s → (place : ℕ) → place < length list → (words : List ℤ)
+    → words ≡ slice_range s.words.items (place % width_in s * s.points) (place % width_in s * s.points + s.points)
     → (head slot : Slot) (other : ℕ) → slice_get list place ≡ Some head → slice_get list other ≡ Some slot → slot.label ≡ head.label → StandsFor (get_or words slot.from.0 (pos 0)) slot.weight
 words_stand s list view slim place inside words are head slot other at there same =
     let also : other < length list = slice_get_within list other slot there in

@@ -11,15 +11,15 @@ use Rattle.closure_model.specs.Keys.{Key, IsKey, Shape, shape_of, key_of, edge_o
 use Rattle.closure_model.specs.Tables.{Graph, HasEdge, HasAtMost, IsAtMost, IsFor}
 use Rattle.closure_model.proofs.TableLemmas.{at_most_gives, at_most_from}
 use Rattle.closure_model.proofs.Weights.{le_then}
-use Rattle.cell_table.specs.CellRule.{IsShown, IsKnown, OfLive}
-use Rattle.cell_table.specs.Filling.{IsLeftOf}
-use Rattle.cell_table.specs.Places.{held, place_of, word_count}
-use Rattle.cell_table.specs.Taking.{CanTake, TakesCellWords, HoldsAt}
+use Rattle.cell_table.specs.CellRule.{IsShown, IsKnownOfCells, OfLive}
+use Rattle.cell_table.specs.TableWords.{IsLeftOf}
+use Rattle.cell_table.specs.Places.{held, word_place_of, word_count}
+use Rattle.cell_table.specs.FinalTables.{CanTake, TakesCellWords, HoldsAt}
 use Rattle.cell_table.specs.declared.view.About.{About}
 use Rattle.cell_table.specs.declared.view.Standing.{Standing}
 use Rattle.cell_table.specs.declared.view.Standing.TheVariants.{Live}
 use Rattle.cell_table.specs.declared.view.View.{View}
-use Rattle.table_closing.proofs.WayLemmas.{derivable_weight}
+use Rattle.network_closure.proofs.PartialClosureLemmas.{derivable_weight}
 use Rattle.cell_table.proofs.EndLemmas.{derivable_key}
 use Rattle.cell_table.proofs.RuleLemmas.{all_at}
 
@@ -28,7 +28,7 @@ module _ (about : About) (first : Graph) (words : List ℕ) (s : State (Unit {0}
   word_derivable : (key : Key) → IsKey first.shape key → (weight : ℤ) → HoldsAt first words key weight → IsDerivable about.net.value (edge_of key weight)
   word_derivable key sound weight has =
       let here = shown.words key (subst (λ (t : Shape). IsKey t key) fits sound) in
-      let same : held (get_or s.words (place_of (shape_of about.net.value) key) 0) ≡ Some weight = (λ i. held (get_or (last i) (place_of (sym fits i) key) 0)) ∙ has in
+      let same : held (get_or s.words (word_place_of (shape_of about.net.value) key) 0) ≡ Some weight = (λ i. held (get_or (last i) (word_place_of (sym fits i) key) 0)) ∙ has in
       shown.was.derivable (edge_of key weight) (sym here ∙ same)
 
   pub left_can : CanTake first words
@@ -43,7 +43,7 @@ module _ (about : About) (first : Graph) (words : List ℕ) (s : State (Unit {0}
         let (weight, has, less) = at_most_gives shown.past.table note there in
         let edge : Edge = edge_of (key_of note) weight in
         let sound = derivable_key about.net.value shown.plan edge (shown.was.derivable edge has) in
-        let holds : HoldsAt first words (key_of note) weight = (λ i. held (get_or (sym last i) (place_of (fits i) (key_of note)) 0)) ∙ (shown.words (key_of note) sound ∙ has) in
+        let holds : HoldsAt first words (key_of note) weight = (λ i. held (get_or (sym last i) (word_place_of (fits i) (key_of note)) 0)) ∙ (shown.words (key_of note) sound ∙ has) in
         let (own, own_has, own_less) = at_most_gives table edge (taken.taken (key_of note) (subst (λ (t : Shape). IsKey t (key_of note)) (sym fits) sound) weight holds) in
         at_most_from table note own own_has (le_then own weight note.weight own_less less)
 
@@ -53,7 +53,7 @@ module _ (about : About) (first : Graph) (words : List ℕ) (s : State (Unit {0}
 
     pub left_is : IsLeftOf about view table
     left_is =
-        let known = all_at (OfLive (IsKnown about shown.past.table)) s.views id (Live view) at shown.seats in record {
+        let known = all_at (OfLive (IsKnownOfCells about shown.past.table)) s.views id (Live view) at shown.seats in record {
           fits = taken.shape_is ∙ fits;
           derivable = (λ edge has. left_derivable edge (taken.given edge has));
           lower = subst (IsAtMost table) first_is taken.lower;

@@ -1,4 +1,4 @@
--- What the calls of the cells ask and say, by what their steps tell.
+-- What the calls of the cells require and ensure, by what their steps show.
 use Rattle.std.proofs.Common.{◌≡◌, ◌≢◌, ℕ, ◌+◌, ◌*◌, ◌<◌, ◌≤◌, ℤ, pos, ◌-ℤ◌, ◌+ℤ◌, ◌≤ℤ◌, ◌<ℤ◌, ◌⊎◌, true, [], length, get_or, min, Option, Some, None, refl, ap, sym, subst, ◌∙◌, inl, inr, arith}
 use Rattle.std.specs.Prelude.{slice_get, nat_lt, int_lt, IfSome, IsSomeAnd}
 use Rattle.std.specs.List.{All}
@@ -19,15 +19,15 @@ use Rattle.net_model.specs.declared.part.Link.{Link}
 use Rattle.closure_model.specs.Derivable.{IsDerivable, IsDerivableFor}
 use Rattle.closure_model.specs.Keys.{Key, IsKey, IsLabelAt, shape_of, key_of, edge_of, labelled_key}
 use Rattle.closure_model.specs.Tables.{weight_of, no_edges}
-use Rattle.closure_model.proofs.Deriving.{link_at}
+use Rattle.closure_model.proofs.DerivableEdges.{link_at}
 use Rattle.closure_model.proofs.Weights.{lt_true, lt_false}
-use Rattle.table_closing.proofs.WayLemmas as way
+use Rattle.network_closure.proofs.PartialClosureLemmas as partial_closure
 use Rattle.cell_table.specs.CellRule.{IsShown}
-use Rattle.cell_table.specs.Places.{absent, added, held, place_of, row_number}
+use Rattle.cell_table.specs.Places.{absent_cell, weight_offset, held, word_place_of, row_number}
 use Rattle.cell_table.specs.Seats.{view_of, seen_at}
-use Rattle.cell_table.specs.Shared.{SeatSeen, Loads, Lowers}
-use Rattle.cell_table.specs.Steps.{IsFound, Told, loaded, dropped}
-use Rattle.cell_table.specs.Views.{looked, offered}
+use Rattle.cell_table.specs.Shared.{CellSeatSeen, Loads, Lowers}
+use Rattle.cell_table.specs.Steps.{IsFoundWeight, StepFound, loaded, dropped}
+use Rattle.cell_table.specs.Views.{looked, relaxed}
 use Rattle.cell_table.specs.declared.view.About.{About}
 use Rattle.cell_table.specs.declared.view.Standing.{Standing}
 use Rattle.cell_table.specs.declared.view.Standing.TheVariants.{Live}
@@ -37,7 +37,7 @@ use Rattle.cell_table.proofs.TableLemmas.{loads, drops}
 
 -- ---- derivable edges
 pub derivable_key : (net : Plan) → IsPlan net → (edge : Edge) → IsDerivable net edge → IsKey (shape_of net) (key_of edge)
-derivable_key net plan edge derivable = way.derivable_key net plan edge derivable (no_edges (shape_of net)) refl
+derivable_key net plan edge derivable = partial_closure.derivable_key net plan edge derivable (no_edges (shape_of net)) refl
 
 pub to_small : (net : Plan) (key : Key) → IsPlan net → IsKey (shape_of net) key → key.to.0 < 4000
 to_small net key plan is = let few = plan.few_points in let less = is.to_point in omega (arith, few, less)
@@ -46,26 +46,26 @@ pub from_small : (net : Plan) (key : Key) → IsPlan net → IsKey (shape_of net
 from_small net key plan is = let few = plan.few_points in let less = is.from_point in omega (arith, few, less)
 
 -- a word that was found is not above that of a key without a weight
-pub found_small : (view : View) (key : Key) (word : ℕ) → IsPlan view.about.net.value → IsFound view key word → word ≤ absent
+pub found_small : (view : View) (key : Key) (word : ℕ) → IsPlan view.about.net.value → IsFoundWeight view key word → word ≤ absent_cell
 found_small view key word plan found = by (held word) refl
   where
-    small : (weight : ℤ) → IsWeight weight → weight ≡ pos word -ℤ pos added → word ≤ absent
+    small : (weight : ℤ) → IsWeight weight → weight ≡ pos word -ℤ pos weight_offset → word ≤ absent_cell
     small weight within is = grind (arith, ints)
 
     none_present : (w : ℤ) → Some w ≡ None → ⊥
     none_present w e = cc
 
-    by : (given : Option ℤ) → held word ≡ given → word ≤ absent
-    by None is = here (cases_eq word absent)
+    by : (given : Option ℤ) → held word ≡ given → word ≤ absent_cell
+    by None is = here (cases_eq word absent_cell)
       where
-        here : (word ≡ absent) ⊎ (word ≢ absent) → word ≤ absent
+        here : (word ≡ absent_cell) ⊎ (word ≢ absent_cell) → word ≤ absent_cell
         here (inl same) = omega arith
-        here (inr other) = absurd (none_present (pos word -ℤ pos added) (sym (held_present word other) ∙ is))
+        here (inr other) = absurd (none_present (pos word -ℤ pos weight_offset) (sym (held_present word other) ∙ is))
     by (Some weight) is =
-        small weight (way.derivable_weight view.about.net.value plan (edge_of key weight) (found.was.derivable (edge_of key weight) (sym found.is ∙ is))) (held_is word weight is).1
+        small weight (partial_closure.derivable_weight view.about.net.value plan (edge_of key weight) (found.was.derivable (edge_of key weight) (sym found.is ∙ is))) (held_is word weight is).1
 
 -- what was found is derivable, and at most what the seat has noted of the key
-module _ (view : View) (key : Key) (word : ℕ) (found : IsFound view key word) (result : Option ℤ) (given : result ≡ held word) where
+module _ (view : View) (key : Key) (word : ℕ) (found : IsFoundWeight view key word) (result : Option ℤ) (given : result ≡ held word) where
   found_derivable : IfSome result (IsDerivableFor view.about.net.value key)
   found_derivable = by result refl
     where
@@ -78,15 +78,15 @@ module _ (view : View) (key : Key) (word : ℕ) (found : IsFound view key word) 
       let note : Edge = get_or view.notes k d in
       subst (λ (o : Option ℤ). IsSomeAnd o (λ weight. weight ≤ℤ note.weight)) (ap (weight_of found.past.table) same ∙ sym (given ∙ found.is)) (found.notes k d lt)
 
-module _ (seen : About) (seat : SeatSeen) (about_is : seat.view.about ≡ seen) (old : Place (Unit {0}) Standing) (view_is : seen_at old ≡ seat) (live : old.me ≡ (Live (view_of old.me.0), [])) where
+module _ (seen : About) (seat : CellSeatSeen) (about_is : seat.view.about ≡ seen) (old : Place (Unit {0}) Standing) (view_is : seen_at old ≡ seat) (live : old.me ≡ (Live (view_of old.me.0), [])) where
   abbrev Mine : Type 0
   Mine = Me (Unit {0}) Standing
 
   abbrev place : Key → ℕ
-  place key = place_of (shape_of seen.net.value) key
+  place key = word_place_of (shape_of seen.net.value) key
 
   live_now : old.me ≡ (Live seat.view, [])
-  live_now = live ∙ ap (λ (s : SeatSeen). (Live s.view, [])) view_is
+  live_now = live ∙ ap (λ (s : CellSeatSeen). (Live s.view, [])) view_is
 
   pub load_asks : (about : About) → about ≡ seen → (slots : ℕ) (key : Key) → IsKey (shape_of seen.net.value) key → (word : ℕ) → word ≡ place key
       → Allows (IsShown about) slots old.id old.me word (λ n. n) (loaded (step slots word 0 0 none) old.me)
@@ -94,64 +94,64 @@ module _ (seen : About) (seat : SeatSeen) (about_is : seat.view.about ≡ seen) 
       subst (λ (a : About). Allows (IsShown a) slots old.id old.me word (λ n. n) (loaded (step slots word 0 0 none) old.me)) (sym same)
       (loads seen slots old.id old.me seat.view live_now about_is key is word at)
 
-  pub offer_asks : (about : About) → about ≡ seen → (slots : ℕ) (edge : Edge) → IsDerivable seen.net.value edge → IsKey (shape_of seen.net.value) (key_of edge)
-      → (code : ℕ) → code < absent → edge.weight ≡ pos code -ℤ pos added → (word : ℕ) → word ≡ place (key_of edge)
+  pub relax_asks : (about : About) → about ≡ seen → (slots : ℕ) (edge : Edge) → IsDerivable seen.net.value edge → IsKey (shape_of seen.net.value) (key_of edge)
+      → (code : ℕ) → code < absent_cell → edge.weight ≡ pos code -ℤ pos weight_offset → (word : ℕ) → word ≡ place (key_of edge)
       → Allows (IsShown about) slots old.id old.me word (λ n. min n code) (dropped (step slots word code 0 none) old.me)
-  offer_asks about same slots edge derivable is code present coded word at =
+  relax_asks about same slots edge derivable is code present coded word at =
       subst (λ (a : About). Allows (IsShown a) slots old.id old.me word (λ n. min n code) (dropped (step slots word code 0 none) old.me)) (sym same)
       (drops seen slots old.id old.me seat.view live_now about_is edge derivable is code present coded word at)
 
-  -- what was told is of the key whose word it is
-  module _ (after_of : View → Key → View) (key : Key) (is : IsKey (shape_of seen.net.value) key) (at_word : ℕ) (at : at_word ≡ place key) (word : ℕ) (after : Mine) (told : Told after_of at_word old.me word after) where
-    same_view : told.view ≡ seat.view
-    same_view = ap (λ (m : Standing). view_of m) (sym told.was ∙ ap (λ (m : Mine). m.0) live_now)
+  -- what was found is of the key whose word it is
+  module _ (after_of : View → Key → View) (key : Key) (is : IsKey (shape_of seen.net.value) key) (at_word : ℕ) (at : at_word ≡ place key) (word : ℕ) (after : Mine) (reported : StepFound after_of at_word old.me word after) where
+    same_view : reported.view ≡ seat.view
+    same_view = ap (λ (m : Standing). view_of m) (sym reported.was ∙ ap (λ (m : Mine). m.0) live_now)
 
-    about_then : told.view.about ≡ seen
+    about_then : reported.view.about ≡ seen
     about_then = ap (λ (v : View). v.about) same_view ∙ about_is
 
-    same_key : told.key ≡ key
+    same_key : reported.key ≡ key
     same_key =
-        one_key (shape_of seen.net.value) told.key key (subst (λ (a : About). IsKey (shape_of a.net.value) told.key) about_then told.there) is
-        (sym (ap (λ (a : About). place_of (shape_of a.net.value) told.key) about_then) ∙ (told.at ∙ at))
+        one_key (shape_of seen.net.value) reported.key key (subst (λ (a : About). IsKey (shape_of a.net.value) reported.key) about_then reported.there) is
+        (sym (ap (λ (a : About). word_place_of (shape_of a.net.value) reported.key) about_then) ∙ (reported.at ∙ at))
 
-    pub told_found : IsFound seat.view key word
-    told_found = subst (λ (p : View × Key). IsFound p.0 p.1 word) (λ i. (same_view i, same_key i)) told.found
+    pub step_found : IsFoundWeight seat.view key word
+    step_found = subst (λ (p : View × Key). IsFoundWeight p.0 p.1 word) (λ i. (same_view i, same_key i)) reported.found
 
-    pub told_after : after ≡ (Live (after_of seat.view key), [])
-    told_after = told.is ∙ (λ i. (Live (after_of (same_view i) (same_key i)), []))
+    pub step_after : after ≡ (Live (after_of seat.view key), [])
+    step_after = reported.is ∙ (λ i. (Live (after_of (same_view i) (same_key i)), []))
 
   pub small_load : IsPlan seen.net.value → (slots : ℕ) (key : Key) → IsKey (shape_of seen.net.value) key → (at_word : ℕ) → at_word ≡ place key → (word : ℕ) (after : Mine)
-      → loaded (step slots at_word 0 0 none) old.me word after → word ≤ absent
-  small_load plan slots key is at_word at word after told =
-      found_small seat.view key word (subst (λ (a : About). IsPlan a.net.value) (sym about_is) plan) (told_found (λ view key. looked view key word) key is at_word at word after told)
+      → loaded (step slots at_word 0 0 none) old.me word after → word ≤ absent_cell
+  small_load plan slots key is at_word at word after reported =
+      found_small seat.view key word (subst (λ (a : About). IsPlan a.net.value) (sym about_is) plan) (step_found (λ view key. looked view key word) key is at_word at word after reported)
 
   seen_after : (new : Place (Unit {0}) Standing) (view : View) → new.table_id ≡ old.table_id → new.me ≡ (Live view, []) → seen_at new ≡ record { cells = seat.cells; view = view }
-  seen_after new view table me = λ i. record { cells = (table ∙ ap (λ (s : SeatSeen). s.cells) view_is) i; view = ap (λ (m : Mine). view_of m.0) me i }
+  seen_after new view table me = λ i. record { cells = (table ∙ ap (λ (s : CellSeatSeen). s.cells) view_is) i; view = ap (λ (m : Mine). view_of m.0) me i }
 
   pub load_ends : (slots : ℕ) (key : Key) → IsKey (shape_of seen.net.value) key → (at_word : ℕ) → at_word ≡ place key → (word : ℕ) (new : Place (Unit {0}) Standing) → new.table_id ≡ old.table_id
       → loaded (step slots at_word 0 0 none) old.me word new.me → (result : Option ℤ) → result ≡ held word → Loads seat (seen_at new) key result
-  load_ends slots key is at_word at word new table told result given =
-      let found = told_found (λ view key. looked view key word) key is at_word at word new.me told in record {
+  load_ends slots key is at_word at word new table reported result given =
+      let found = step_found (λ view key. looked view key word) key is at_word at word new.me reported in record {
         word = word;
         found = found;
         given = given;
         derivable = found_derivable seat.view key word found result given;
         noted = found_noted seat.view key word found result given;
-        after_is = seen_after new (looked seat.view key word) table (told_after (λ view key. looked view key word) key is at_word at word new.me told);
+        after_is = seen_after new (looked seat.view key word) table (step_after (λ view key. looked view key word) key is at_word at word new.me reported);
       }
 
-  above : (code word : ℕ) (weight : ℤ) → code < absent → weight ≡ pos code -ℤ pos added → (given : Option ℤ) → held word ≡ given → nat_lt code word ≡ option_map_or (λ w. int_lt weight w) given true
-  above code word weight present coded None is = by (cases_eq word absent)
+  above : (code word : ℕ) (weight : ℤ) → code < absent_cell → weight ≡ pos code -ℤ pos weight_offset → (given : Option ℤ) → held word ≡ given → nat_lt code word ≡ option_map_or (λ w. int_lt weight w) given true
+  above code word weight present coded None is = by (cases_eq word absent_cell)
     where
       none_present : (w : ℤ) → Some w ≡ None → ⊥
       none_present w e = cc
 
-      by : (word ≡ absent) ⊎ (word ≢ absent) → nat_lt code word ≡ true
+      by : (word ≡ absent_cell) ⊎ (word ≢ absent_cell) → nat_lt code word ≡ true
       by (inl same) = lt-ltb code word (omega arith)
-      by (inr other) = absurd (none_present (pos word -ℤ pos added) (sym (held_present word other) ∙ is))
+      by (inr other) = absurd (none_present (pos word -ℤ pos weight_offset) (sym (held_present word other) ∙ is))
   above code word weight present coded (Some w) is = by (cases_lt code word)
     where
-      same : w ≡ pos word -ℤ pos added
+      same : w ≡ pos word -ℤ pos weight_offset
       same = (held_is word w is).1
 
       lighter : code < word → weight <ℤ w
@@ -164,23 +164,23 @@ module _ (seen : About) (seat : SeatSeen) (about_is : seat.view.about ≡ seen) 
       by (inl less) = lt-ltb code word less ∙ sym (lt_true weight w (lighter less))
       by (inr more) = le-ltb code word more ∙ sym (lt_false weight w (heavier more))
 
-  pub offer_ends : (slots : ℕ) (edge : Edge) → IsKey (shape_of seen.net.value) (key_of edge) → (code : ℕ) → code < absent → edge.weight ≡ pos code -ℤ pos added → (at_word : ℕ) → at_word ≡ place (key_of edge)
+  pub relax_ends : (slots : ℕ) (edge : Edge) → IsKey (shape_of seen.net.value) (key_of edge) → (code : ℕ) → code < absent_cell → edge.weight ≡ pos code -ℤ pos weight_offset → (at_word : ℕ) → at_word ≡ place (key_of edge)
       → (word : ℕ) (new : Place (Unit {0}) Standing) → new.table_id ≡ old.table_id → dropped (step slots at_word code 0 none) old.me word new.me → Lowers seat (seen_at new) edge (nat_lt code word)
-  offer_ends slots edge is code present coded at_word at word new table told =
-      let then : View → Key → View = λ view key. offered view key word (pos code -ℤ pos added) in record {
+  relax_ends slots edge is code present coded at_word at word new table reported =
+      let then : View → Key → View = λ view key. relaxed view key word (pos code -ℤ pos weight_offset) in record {
         word = word;
-        found = told_found then (key_of edge) is at_word at word new.me told;
+        found = step_found then (key_of edge) is at_word at word new.me reported;
         given = above code word edge.weight present coded (held word) refl;
         after_is =
-            seen_after new (offered seat.view (key_of edge) word (pos code -ℤ pos added)) table (told_after then (key_of edge) is at_word at word new.me told)
-            ∙ (λ i. record { cells = seat.cells; view = offered seat.view (key_of edge) word (sym coded i) });
+            seen_after new (relaxed seat.view (key_of edge) word (pos code -ℤ pos weight_offset)) table (step_after then (key_of edge) is at_word at word new.me reported)
+            ∙ (λ i. record { cells = seat.cells; view = relaxed seat.view (key_of edge) word (sym coded i) });
       }
 
 -- a code of a weight
-pub code_small : (code : ℕ) (weight : ℤ) → IsWeight weight → pos code ≡ weight +ℤ pos added → code < absent
+pub code_small : (code : ℕ) (weight : ℤ) → IsWeight weight → pos code ≡ weight +ℤ pos weight_offset → code < absent_cell
 code_small code weight within is = grind (arith, ints)
 
-pub code_of : (code : ℕ) (weight : ℤ) → pos code ≡ weight +ℤ pos added → weight ≡ pos code -ℤ pos added
+pub code_of : (code : ℕ) (weight : ℤ) → pos code ≡ weight +ℤ pos weight_offset → weight ≡ pos code -ℤ pos weight_offset
 code_of code weight is = grind (arith, ints)
 
 -- ---- rows and labelled keys
@@ -218,5 +218,5 @@ upper_key net plan from to link less begins = record { to_point = to_less; from_
             subst (λ (p : PointId). p.0 < length net.points) same sound.from_point
 
 pub upper_place : (net : Plan) (from to : PointId) (link : LinkId) (points : ℕ) → points ≡ length net.points → (place : ℕ) → place ≡ (points + link.0) * length net.points + from.0 + 1
-    → place ≡ place_of (shape_of net) (labelled_key from to link)
+    → place ≡ word_place_of (shape_of net) (labelled_key from to link)
 upper_place net from to link points same place is = is ∙ ap (λ n. (n + link.0) * length net.points + from.0 + 1) same

@@ -10,45 +10,46 @@ use Rattle.net_model.specs.Limits.{IsWeight}
 use Rattle.net_model.specs.declared.part.Edge.{Edge}
 use Rattle.closure_model.specs.Derivable.{IsDerivable}
 use Rattle.closure_model.specs.Keys.{Key, IsKey, key_of, shape_of}
-use Rattle.cell_table.specs.CellHistory.{CellHistory, make, load, lower, split, join, IsSound, StepsAreTableHistories, place_in, word_in}
-use Rattle.cell_table.specs.CellRule.{IsKnown, OfLive, IsShown}
-use Rattle.cell_table.specs.Places.{absent, added, held}
-use Rattle.cell_table.specs.Views.{looked, offered, joined_with}
+use Rattle.cell_table.specs.CellHistory.{CellHistory, make, load, lower, split, join, IsSoundAbout, StepsAreTableHistories, place_of_key, word_in}
+use Rattle.cell_table.specs.CellRule.{IsKnownOfCells, OfLive, IsShown}
+use Rattle.cell_table.specs.Places.{absent_cell, weight_offset, held}
+use Rattle.cell_table.specs.Views.{looked, relaxed, joined_with}
 use Rattle.cell_table.specs.declared.view.About.{About}
 use Rattle.cell_table.specs.declared.view.Standing.{Standing}
 use Rattle.cell_table.specs.declared.view.Standing.TheVariants.{Live}
 use Rattle.cell_table.specs.declared.view.View.{View}
-use Rattle.table_closing.proofs.WayLemmas.{derivable_weight}
+use Rattle.network_closure.proofs.PartialClosureLemmas.{derivable_weight}
 use Rattle.cell_table.proofs.EndLemmas.{derivable_key}
 use Rattle.cell_table.proofs.FillLemmas.{opens}
 use Rattle.cell_table.proofs.PlaceLemmas.{held_is}
 use Rattle.cell_table.proofs.RuleLemmas.{all_at}
-use Rattle.cell_table.proofs.TableLemmas.{shown_loaded, shown_offered, split_live, join_live}
+use Rattle.cell_table.proofs.TableLemmas.{shown_loaded, shown_relaxed, split_live, join_live}
 
 -- a word that holds a weight of an edge is below that of a key without one
-present_of : (code : ℕ) (weight : ℤ) → IsWeight weight → weight ≡ pos code -ℤ pos added → code < absent
+present_of : (code : ℕ) (weight : ℤ) → IsWeight weight → weight ≡ pos code -ℤ pos weight_offset → code < absent_cell
 present_of code weight within is = grind (arith, ints)
 
 abbrev state : List ℕ → List Standing → State (Unit {0}) Standing
 state words views = record { words = words; homes = []; views = views }
 
-module _ (about : About) (sound : IsSound about) where
+module _ (about : About) (sound : IsSoundAbout about) where
   known_at : (words : List ℕ) (views : List Standing) (shown : IsShown about (state words views)) (seat : ℕ) (view : View) → get_elem? views seat ≡ some (Live view) → view.about ≡ about
-  known_at words views shown seat view at = (all_at (OfLive (IsKnown about shown.past.table)) views seat (Live view) at shown.seats).about_is
+  known_at words views shown seat view at = (all_at (OfLive (IsKnownOfCells about shown.past.table)) views seat (Live view) at shown.seats).about_is
 
   module _ (words : List ℕ) (before : List Standing) (shown : IsShown about (state words before)) (seat : ℕ) (view : View) (at : get_elem? before seat ≡ some (Live view)) where
     after_load : (key : Key) → IsKey (shape_of about.net.value) key → IsShown about (state words (set before seat (Live (looked view key (word_in about words key)))))
     after_load key is =
-        subst (λ (ws : List ℕ). IsShown about (state ws (set before seat (Live (looked view key (word_in about words key)))))) (set-get_or words (place_in about key) 0)
+        subst (λ (ws : List ℕ). IsShown about (state ws (set before seat (Live (looked view key (word_in about words key)))))) (set-get_or words (place_of_key about key) 0)
         (shown_loaded about 0 seat view (known_at words before shown seat view at) key is (state words before) shown at)
 
     after_lower : (edge : Edge) (code : ℕ) → IsDerivable about.net.value edge → held code ≡ Some edge.weight
-        → IsShown about (state (set words (place_in about (key_of edge)) (min (word_in about words (key_of edge)) code)) (set before seat (Live (offered view (key_of edge) (word_in about words (key_of edge)) edge.weight))))
+        → IsShown about (state (set words (place_of_key about (key_of edge)) (min (word_in about words (key_of edge)) code)) (set before seat (Live (relaxed view (key_of edge) (word_in about words (key_of edge)) edge.weight))))
     after_lower edge code derivable holds =
         let (_, coded) = held_is code edge.weight holds in
         let present = present_of code edge.weight (derivable_weight about.net.value sound.plan edge derivable) coded in
-        subst (λ (w : ℤ). IsShown about (state (set words (place_in about (key_of edge)) (min (word_in about words (key_of edge)) code)) (set before seat (Live (offered view (key_of edge) (word_in about words (key_of edge)) w))))) (sym coded)
-        (shown_offered about 0 seat view (known_at words before shown seat view at) edge derivable (derivable_key about.net.value sound.plan edge derivable) code present coded (state words before) shown at)
+        subst (λ (w : ℤ). IsShown about (state (set words (place_of_key about (key_of edge)) (min (word_in about words (key_of edge)) code)) (set before seat (Live (relaxed view (key_of edge) (word_in about words (key_of edge)) w)))))
+        (sym coded)
+        (shown_relaxed about 0 seat view (known_at words before shown seat view at) edge derivable (derivable_key about.net.value sound.plan edge derivable) code present coded (state words before) shown at)
 
   keeps : (words : List ℕ) (views : List Standing) → CellHistory about words views → IsShown about (state words views)
   keeps _ _ (make words views are is) =

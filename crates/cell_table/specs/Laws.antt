@@ -5,20 +5,20 @@ use Rattle.net_model.specs.declared.ids.PointId.{PointId}
 use Rattle.closure_model.specs.Closure.{IsClosure}
 use Rattle.closure_model.specs.Orders.{IsCycle}
 use Rattle.closure_model.specs.Tables.{Graph}
-use Rattle.table_closing.specs.Closing.{ClosesTo}
-use Rattle.table_closing.specs.declared.closing.Closed.{Closed as ClosedTable}
-use Rattle.cell_table.specs.Settling.{IsSettled}
-use Rattle.cell_table.specs.declared.settling.Settled.{Settled}
-use Rattle.cell_table.specs.declared.settling.Settled.TheVariants.{Closed, Looped}
+use Rattle.network_closure.specs.Saturation.{ClosesTo}
+use Rattle.network_closure.specs.declared.closure.Closed.{Closed as ClosedTable}
+use Rattle.cell_table.specs.Settlement.{IsSettledOutcome}
+use Rattle.cell_table.specs.declared.settlement.Settled.{Settled}
+use Rattle.cell_table.specs.declared.settlement.Settled.TheVariants.{Closed, Looped}
 
--- a closure has no cycle of negative ordinary edges where a network settled to it, else the cycle to which it settled
-abbrev pub TellsOf : Graph → Settled → Type 0
-TellsOf closure (Closed closed) = (cycle : List PointId) → ¬ IsCycle closure cycle
-TellsOf closure (Looped cycle) = IsCycle closure cycle
+-- a closure has no cycle of negative ordinary edges if a network settled to it, else the cycle to which it settled
+abbrev pub SettledHolds : Graph → Settled → Type 0
+SettledHolds closure (Closed closed) = (cycle : List PointId) → ¬ IsCycle closure cycle
+SettledHolds closure (Looped cycle) = IsCycle closure cycle
 
--- A network settles to its closure exactly where this has no cycle of negative ordinary edges, and else to a cycle of it.
+-- A network settles to its closure exactly if this has no cycle of negative ordinary edges, and else to a cycle of it.
 abbrev pub SettlesExactly : Type 0
-SettlesExactly = (net : Plan) (closure : Graph) (settled : Settled) → IsClosure net closure → IsSettled net settled → TellsOf closure settled
+SettlesExactly = (net : Plan) (closure : Graph) (settled : Settled) → IsClosure net closure → IsSettledOutcome net settled → SettledHolds closure settled
 
 -- the closed table to which a network settled, if it did
 abbrev pub closed_of : Settled → Option ClosedTable
@@ -27,4 +27,4 @@ closed_of (Looped cycle) = None
 
 -- A network settles to what it closes to.
 abbrev pub SettlesAsItCloses : Type 0
-SettlesAsItCloses = (net : Plan) (settled : Settled) → IsSettled net settled → ClosesTo net (closed_of settled)
+SettlesAsItCloses = (net : Plan) (settled : Settled) → IsSettledOutcome net settled → ClosesTo net (closed_of settled)

@@ -5,10 +5,10 @@ pub mod CellRule
 pub mod Steps
 pub mod Shared
 pub mod Seats
-pub mod Filling
+pub mod TableWords
 pub mod CellHistory
 pub mod Faults
-pub mod Taking
-pub mod Sweeping
-pub mod Settling
+pub mod FinalTables
+pub mod SweepSeats
+pub mod Settlement
 pub mod Laws

@@ -11,5 +11,5 @@ abbrev pub most_keys : ℕ
 most_keys = 1000000
 
 -- the most seats of cells, and so the most workers of a sweep
-abbrev pub most_seats : ℕ
-most_seats = 64
+abbrev pub most_cell_seats : ℕ
+most_cell_seats = 64

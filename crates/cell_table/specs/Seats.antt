@@ -9,7 +9,7 @@ use Rattle.closure_model.specs.Closure.{HoldsDerivable}
 use Rattle.closure_model.specs.Keys.{shape_of}
 use Rattle.closure_model.specs.Tables.{Graph, IsFor, no_edges}
 use Rattle.cell_table.specs.Places.{word_count}
-use Rattle.cell_table.specs.Shared.{CellsSeen, SeatSeen}
+use Rattle.cell_table.specs.Shared.{CellsSeen, CellSeatSeen}
 use Rattle.cell_table.specs.Views.{bare_view}
 use Rattle.cell_table.specs.contracts.view.About as about
 use Rattle.cell_table.specs.contracts.view.View as view
@@ -18,15 +18,23 @@ use Rattle.cell_table.specs.declared.view.Standing.{Standing}
 use Rattle.cell_table.specs.declared.view.Standing.TheVariants.{Live, Spent}
 use Rattle.cell_table.specs.declared.view.View.{View}
 
+-- cells as data
 abbrev pub cells_code : Coded CellsSeen
-cells_code = code_by (TableId × About) (coded× table_id_coded about.the_row.coded) (λ cells. (cells.id, cells.about)) (λ parts. record { id = parts.0; about = parts.1 }) (λ _. refl)
+cells_code = code_by (TableId × About) (coded× table_id_coded about.the_row.coded) (λ cells. (cells.id, cells.about))
+    (λ parts. record { id = parts.0; about = parts.1 }) (λ _. refl)
 
-abbrev pub seat_code : Coded SeatSeen
-seat_code = code_by (TableId × View) (coded× table_id_coded view.the_row.coded) (λ seat. (seat.cells, seat.view)) (λ parts. record { cells = parts.0; view = parts.1 }) (λ _. refl)
+-- a seat as data
+abbrev pub seat_code : Coded CellSeatSeen
+seat_code = code_by (TableId × View) (coded× table_id_coded view.the_row.coded) (λ seat. (seat.cells, seat.view))
+    (λ parts. record { cells = parts.0; view = parts.1 }) (λ _. refl)
 
--- what a seat with no live standing would know
+-- what a seat that is not live would know
 abbrev pub nothing : View
-nothing = bare_view record { net = record { marker = record {}; value = record { points = []; bounds = []; links = []; delay = 0 } }; first = record { marker = record {}; value = no_edges record { points = 0; activations = [] } }; seats = 0 } 0
+nothing = bare_view record {
+  net = record { marker = record {}; value = record { points = []; bounds = []; links = []; delay = 0 } };
+  first = record { marker = record {}; value = no_edges record { points = 0; activations = [] } };
+  seats = 0;
+} 0
 
 -- what a seat with this standing knows
 abbrev pub view_of : Standing → View
@@ -34,7 +42,7 @@ view_of (Live view) = view
 view_of Spent = nothing
 
 -- what callers see of a seat of the table
-abbrev pub seen_at : Place (Unit {0}) Standing → SeatSeen
+abbrev pub seen_at : Place (Unit {0}) Standing → CellSeatSeen
 seen_at place = record { cells = place.table_id; view = view_of place.me.0 }
 
 -- the table of words is that of the network, which is sound; and the first table is for it and has derivable edges alone
@@ -49,6 +57,6 @@ pub record IsCells (id : TableId) (about : About) (first : Graph) (ends : List P
   pub derivable : HoldsDerivable about.net.value first
 
 -- a seat is live and holds no slot, and its count is the one that it knows
-pub record IsSeated (place : Place (Unit {0}) Standing) (to_split : ℕ) : Type 0 where
+pub record IsSeatedAtCells (place : Place (Unit {0}) Standing) (to_split : ℕ) : Type 0 where
   pub live : place.me ≡ (Live (view_of place.me.0), [])
   pub to_split_is : to_split ≡ (view_of place.me.0).to_split

@@ -1,4 +1,4 @@
--- Cells and a seat at them, as callers see them, and what a load and an offer say. This project's own choice.
+-- Cells and a seat at them, as callers see them, and what a load and a relaxation say. This project's own choice.
 use Rattle.std.specs.Prelude.{◌≡◌, ℕ, ℤ, ◌≤ℤ◌, Bool, Option, IfSome, IsSomeAnd, int_lt, true}
 use Rattle.std.specs.List.{All}
 use Rattle.std.specs.Option.{option_map_or}
@@ -7,8 +7,8 @@ use Rattle.net_model.specs.declared.part.Edge.{Edge}
 use Rattle.closure_model.specs.Derivable.{IsDerivableFor}
 use Rattle.closure_model.specs.Keys.{Key, key_of}
 use Rattle.cell_table.specs.Places.{held}
-use Rattle.cell_table.specs.Steps.{IsFound}
-use Rattle.cell_table.specs.Views.{looked, offered}
+use Rattle.cell_table.specs.Steps.{IsFoundWeight}
+use Rattle.cell_table.specs.Views.{looked, relaxed}
 use Rattle.cell_table.specs.declared.view.About.{About}
 use Rattle.cell_table.specs.declared.view.View.{View}
 
@@ -18,28 +18,29 @@ pub record CellsSeen : Type 0 where
   pub about : About
 
 -- the cells to which a seat belongs, and what the seat knows
-pub record SeatSeen : Type 0 where
+pub record CellSeatSeen : Type 0 where
   pub cells : TableId
   pub view : View
 
 -- a seat comes from cells
-pub record IsSeatOf (cells : CellsSeen) (seat : SeatSeen) : Type 0 where
+pub record IsSeatOfCells (cells : CellsSeen) (seat : CellSeatSeen) : Type 0 where
   pub cells_are : seat.cells ≡ cells.id
   pub about_is : seat.view.about ≡ cells.about
 
--- A seat loaded the word of a key: nothing is given exactly where the word of that step holds no weight. What is given is derivable; where
--- the seat has a note of the key, something is given, and it is at most the weight of the note.
-pub record Loads (before after : SeatSeen) (key : Key) (result : Option ℤ) : Type 0 where
+-- A seat loaded the word of a key: nothing is given exactly if the word of that step holds no weight. What is given is derivable; if the
+-- seat has a note of the key, something is given, and it is at most the weight of the note.
+pub record Loads (before after : CellSeatSeen) (key : Key) (result : Option ℤ) : Type 0 where
   pub word : ℕ
-  pub found : IsFound before.view key word
+  pub found : IsFoundWeight before.view key word
   pub given : result ≡ held word
   pub derivable : IfSome result (IsDerivableFor before.view.about.net.value key)
   pub noted : All (λ (note : Edge). key_of note ≡ key → IsSomeAnd result (λ weight. weight ≤ℤ note.weight)) before.view.notes
   pub after_is : after ≡ record { cells = before.cells; view = looked before.view key word }
 
--- a seat offered an edge: true exactly where the word of that step stood above
-pub record Lowers (before after : SeatSeen) (edge : Edge) (result : Bool) : Type 0 where
+-- A seat relaxed an edge: true exactly if the word of that step was above, which means that it held no weight or a greater one. A look is
+-- added, and a note of the edge.
+pub record Lowers (before after : CellSeatSeen) (edge : Edge) (result : Bool) : Type 0 where
   pub word : ℕ
-  pub found : IsFound before.view (key_of edge) word
+  pub found : IsFoundWeight before.view (key_of edge) word
   pub given : result ≡ option_map_or (λ weight. int_lt edge.weight weight) (held word) true
-  pub after_is : after ≡ record { cells = before.cells; view = offered before.view (key_of edge) word edge.weight }
+  pub after_is : after ≡ record { cells = before.cells; view = relaxed before.view (key_of edge) word edge.weight }

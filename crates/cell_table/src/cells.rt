@@ -1,23 +1,24 @@
 //! The cells of a network, and the steps of their seats.
 
-ghost use Rattle.std.specs.Prelude.{◌≡◌, ◌<◌, ◌≤◌, ◌+◌, ◌*◌, ◌+ℤ◌, pos, length, slice_get, Some, IfOk, IfErr};
+ghost use Rattle.std.specs.Prelude.{◌≡◌, ◌<◌, ◌≤◌, ◌+◌, ◌*◌, ◌+ℤ◌, pos, length, slice_get, Some};
+ghost use Rattle.std.specs.Prelude.{IfOk, IfErr};
 ghost use Rattle.closure_model.specs.Derivable.{IsDerivable};
 ghost use Rattle.closure_model.specs.Keys.{ordinary_key, labelled_key, key_of, shape_of, IsKey};
 ghost use Rattle.closure_model.specs.Closure.{HoldsDerivable};
 ghost use Rattle.closure_model.specs.Tables.{IsFor, base_table};
 ghost use Rattle.net_model.specs.Limits.{IsWeight};
-ghost use Rattle.cell_table.specs.Filling.{AreMadeOf, IsLeftOf};
-ghost use Rattle.cell_table.specs.Faults.{IsFaultOf};
-ghost use Rattle.cell_table.specs.Limits.{most_seats};
-ghost use Rattle.cell_table.specs.Places.{held, absent, added, row_number};
-ghost use Rattle.cell_table.specs.Shared.{IsSeatOf, Loads, Lowers};
+ghost use Rattle.cell_table.specs.TableWords.{AreMadeOf, IsLeftOf};
+ghost use Rattle.cell_table.specs.Faults.{IsCellFault};
+ghost use Rattle.cell_table.specs.Limits.{most_cell_seats};
+ghost use Rattle.cell_table.specs.Places.{held, absent_cell, weight_offset, row_number};
+ghost use Rattle.cell_table.specs.Shared.{IsSeatOfCells, Loads, Lowers};
 ghost use Rattle.cell_table.specs.Views.{split_from, split_off, joined_with};
 
 use crate::fault::CellFault;
-use crate::filling::{ADDED, words_of};
-use crate::rule::{Joining, Loading, Lowering, Shown, Splitting};
+use crate::final_table::{ends_of, taken_in};
+use crate::rule::{Joining, Loading, Relaxing, Shown, Splitting};
 use crate::seat::CellSeat;
-use crate::taking::{ends_of, taken_in};
+use crate::table_words::{ADDED, words_of};
 use crate::view::{About, Standing};
 use crate::word::weight_of_word;
 use atomic_table::Table as Words;
@@ -30,9 +31,14 @@ use std::snapshot::Snapshot;
 /// How many keys cells may have.
 pub const MOST_KEYS: usize = 1_000_000;
 
-/// A table of a network that several workers lower in place: a word of 64 bits for each key, (points + links) * points of them, and one
-/// word that is always 0. Each step of a seat is one atomic step at one word, and no step takes memory. Points and links that are handed
-/// to a call are those of the network.
+/// A table of a network that several workers lower in place: a word of 64 bits for each key,
+/// (points + links) * points of them, and one word that is always 0. Each step of a seat is one
+/// atomic step at one word, and no step takes memory. Points and links that are passed to a call
+/// are those of the network.
+///
+/// `new` or `of_table` gives them with a first seat. Each worker steps with a seat of its own,
+/// which was split from the first one and is joined into it at the end; `close` gives the table
+/// that is left.
 #[derive(Drop)]
 pub struct Cells {
     words: Words<(), Standing, About, Shown, Global>,
@@ -52,18 +58,23 @@ impl Model for Cells {
 
     ghost coded = { cells_code };
 
-    ghost view = { λ cells. record { id = cells.words.shared.table_id; about = cells.words.shared.key } };
+    ghost view = { λ cells. record {
+      id = cells.words.shared.table_id;
+      about = cells.words.shared.key;
+    } };
 
-    ghost invariant = { λ cells. IsCells cells.words.shared.table_id cells.words.shared.key cells.first cells.ends.items cells.points };
+    ghost invariant = { λ cells. IsCells cells.words.shared.table_id cells.words.shared.key
+        cells.first cells.ends.items cells.points };
 }
 
 impl Cells {
-    /// The cells of the base table of a network, and the first of their seats, of which there may be so many, 1 to 64. The faults are those
-    /// of `of_table`.
+    /// The cells of the base table of a network, and the first of their seats, of which there may
+    /// be so many, 1 to 64. The faults are those of `of_table`.
     pub fn new(alloc: Global, net: &Network, seats: u32) -> Result<(Cells, CellSeat), CellFault>
-        requires seats { (1 ≤ seats) × (seats ≤ most_seats) }
-        ensures made { IfOk result (λ made. AreMadeOf net.now (base_table net.now) seats made.0 made.1) }
-        ensures many { IfErr result (IsFaultOf net.now) }
+        requires seats { (1 ≤ seats) × (seats ≤ most_cell_seats) }
+        ensures made { IfOk result (λ made. AreMadeOf net.now
+            (base_table net.now) seats made.0 made.1) }
+        ensures many { IfErr result (IsCellFault net.now) }
     {
         match Table::of(alloc, net) {
             Err(_) => Err(CellFault::OutOfMemory),
@@ -71,20 +82,21 @@ impl Cells {
         }
     }
 
-    /// The cells of a table of a network whose edges are all derivable, and the first of their seats, of which there may be so many, 1 to 64.
-    /// They take 8 bytes for each key, and a copy of the table. `TooMany` comes exactly where there are more than 1,000,000 keys,
-    /// `OutOfMemory` only for want of memory.
+    /// The cells of a table of a network whose edges are all derivable, and the first of their
+    /// seats, of which there may be so many, 1 to 64. They take 8 bytes for each key, and a copy of
+    /// the table. `TooMany` comes exactly if there are more than 1,000,000 keys, points times
+    /// (points + links), with their number, `OutOfMemory` only for want of memory.
     pub fn of_table(
         alloc: Global,
         net: &Network,
         table: &Table,
         seats: u32,
     ) -> Result<(Cells, CellSeat), CellFault>
-        requires seats { (1 ≤ seats) × (seats ≤ most_seats) }
+        requires seats { (1 ≤ seats) × (seats ≤ most_cell_seats) }
         requires fits { IsFor net.now table.now }
         requires derivable { HoldsDerivable net.now table.now }
         ensures made { IfOk result (λ made. AreMadeOf net.now table.now seats made.0 made.1) }
-        ensures many { IfErr result (IsFaultOf net.now) }
+        ensures many { IfErr result (IsCellFault net.now) }
     {
         let points = net.points().len();
         let links = net.links().len();
@@ -123,11 +135,15 @@ impl Cells {
         }
     }
 
-    /// Splits a seat from one from which at least one more may be split. It has no notes and no looks, and none is split from it.
+    /// Splits a new seat from one from which at least one more may be split. The new one has no
+    /// notes and no looks, and none may be split from it.
     pub fn split(&self, seat: &mut CellSeat) -> CellSeat
-        requires seat { IsSeatOf self.now seat.old }
+        requires seat { IsSeatOfCells self.now seat.old }
         requires may { 0 < seat.old.view.to_split }
-        ensures from { seat.new ≡ record { cells = seat.old.cells; view = split_from seat.old.view } }
+        ensures from { seat.new ≡ record {
+          cells = seat.old.cells;
+          view = split_from seat.old.view;
+        } }
         ensures off { result ≡ record { cells = seat.old.cells; view = split_off seat.old.view } }
     {
         let place = self.words.shared.split_seat::<Splitting>(&mut seat.place);
@@ -135,10 +151,13 @@ impl Cells {
         CellSeat { place, to_split: 0 }
     }
 
-    /// Joins a seat into another, which takes over what the other noted and keeps its own looks.
+    /// Joins a seat into another, which takes over the notes of the other and keeps its own looks.
     pub fn join(&self, into: &mut CellSeat, from: CellSeat)
-        requires seats { IsSeatOf self.now into.old × IsSeatOf self.now from }
-        ensures { into.new ≡ record { cells = into.old.cells; view = joined_with into.old.view from.view } }
+        requires seats { IsSeatOfCells self.now into.old × IsSeatOfCells self.now from }
+        ensures { into.new ≡ record {
+          cells = into.old.cells;
+          view = joined_with into.old.view from.view;
+        } }
     {
         let CellSeat { place, .. } = from;
         self.words
@@ -146,10 +165,11 @@ impl Cells {
             .join_seat::<Joining>(&mut into.place, place);
     }
 
-    /// The weight that the ordinary key between two points has at this step, and `None` exactly where it has none. It is derivable, and at
-    /// most each weight that the seat has noted of the key.
+    /// The weight that the ordinary key between two points has at this step, and `None` exactly if
+    /// it has none. It is derivable, and at most each weight that the seat has noted of the key, so
+    /// that a key of which it has a note has a weight.
     pub fn load(&self, seat: &mut CellSeat, from: PointId, to: PointId) -> Option<Weight>
-        requires seat { IsSeatOf self.now seat.old }
+        requires seat { IsSeatOfCells self.now seat.old }
         requires key { IsKey (shape_of self.now.about.net.value) (ordinary_key from to) }
         ensures { Loads seat.old seat.new (ordinary_key from to) result }
     {
@@ -160,22 +180,25 @@ impl Cells {
         weight_of_word(word)
     }
 
-    /// The weight that the key from a point with a link as its label has at this step; all else is as with `load`.
+    /// The weight that the key from a point with a link as its label has at this step; all else is
+    /// as with `load`.
     pub fn load_upper(&self, seat: &mut CellSeat, from: PointId, link: LinkId) -> Option<Weight>
-        requires seat { IsSeatOf self.now seat.old }
+        requires seat { IsSeatOfCells self.now seat.old }
         requires from { from.0 < length self.now.about.net.value.points }
         requires link { link.0 < length self.now.about.net.value.links }
-        ensures { (to : PointId) → slice_get (shape_of self.now.about.net.value).activations link.0 ≡ Some to → Loads seat.old seat.new (labelled_key from to link) result }
+        ensures { (to : PointId) → slice_get (shape_of self.now.about.net.value).activations
+            link.0 ≡ Some to → Loads seat.old seat.new (labelled_key from to link) result }
     {
         let place = self.place(from, self.points + link.0 as usize);
         let word = self.words.shared.load::<Loading>(&mut seat.place, place);
         weight_of_word(word)
     }
 
-    /// Offers a derivable edge: its key keeps the lesser of what it has at this step and the weight of the edge. True exactly where the key
-    /// had no weight or a greater one.
+    /// Relaxes a derivable edge, by one atomic `fetch_min`: its key keeps the lesser of what it has
+    /// at this step and the weight of the edge. True exactly if the key had no weight or a greater
+    /// one.
     pub fn lower(&self, seat: &mut CellSeat, edge: &Edge) -> bool
-        requires seat { IsSeatOf self.now seat.old }
+        requires seat { IsSeatOfCells self.now seat.old }
         requires derivable { IsDerivable self.now.about.net.value edge.now }
         ensures { Lowers seat.old seat.new edge.now result }
     {
@@ -187,14 +210,15 @@ impl Cells {
         let found = self
             .words
             .shared
-            .fetch_min::<Lowering>(&mut seat.place, place, word);
+            .fetch_min::<Relaxing>(&mut seat.place, place, word);
         word < found
     }
 
-    /// The table that is left at the end, by a seat: its edges are derivable, and each edge of the first table, and each edge that the seat
-    /// noted, it has at most at its weight. `AllocError` comes only for want of memory.
+    /// The table that is left at the end, by a seat: its edges are derivable, and each edge of the
+    /// first table, and each edge that the seat noted, it has at most at its weight. `AllocError`
+    /// comes only for want of memory.
     pub fn close(self, seat: CellSeat) -> Result<Table, AllocError>
-        requires seat { IsSeatOf self seat }
+        requires seat { IsSeatOfCells self seat }
         ensures { IfOk result (IsLeftOf self.about seat.view) }
     {
         let Cells {
@@ -214,7 +238,8 @@ impl Cells {
     /// The row of the key of an edge.
     fn row(&self, edge: &Edge) -> usize
         requires { IsDerivable self.now.about.net.value edge.now }
-        ensures { result ≡ row_number (length self.now.about.net.value.points) edge.now.to edge.now.label }
+        ensures { result ≡ row_number (length self.now.about.net.value.points) edge.now.to
+            edge.now.label }
     {
         match edge.label {
             None => edge.to.0 as usize,
@@ -235,7 +260,7 @@ impl Cells {
 /// The word of the weight of an edge.
 fn word_of(edge: &Edge) -> u64
     requires { IsWeight edge.now.weight }
-    ensures { pos result ≡ edge.now.weight +ℤ pos added }
+    ensures { pos result ≡ edge.now.weight +ℤ pos weight_offset }
 {
     (edge.weight + ADDED) as u64
 }

@@ -1,4 +1,5 @@
-//! What is known of cells and of their seats. Values of `View` and `Standing` stand in contracts alone: none is made.
+//! What is known of cells and of their seats. Values of `View` and `Standing` stand in contracts
+//! alone: none is made.
 
 use labelled_graph::Table;
 use net_model::{Edge, LinkId, Network, PointId};
@@ -24,7 +25,8 @@ pub struct Look {
 /// What a seat knows of its cells.
 pub struct View {
     pub about: About,
-    /// What it read or offered, and what the seats noted that were joined into it. A clause reads an array as a list, of any length.
+    /// The edges that it read or relaxed, and those of the seats that were joined into it. A clause
+    /// reads an array as a list, of any length.
     pub notes: [Edge; 0],
     /// What its own steps found.
     pub looks: [Look; 0],

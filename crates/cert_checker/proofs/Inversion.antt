@@ -1,4 +1,4 @@
--- What the tests of a line say where it passes.
+-- What the tests of a line say if it passes.
 use Rattle.std.proofs.Common.{◌≡◌, ℕ, ℤ, pos, ◌≤ℤ◌, ◌<ℤ◌, true, List, Some, Ok, zero, suc, map, ap, ◌∙◌, arith}
 use Rattle.std.specs.Prelude.{slice_get, int_le, int_lt}
 use Rattle.std.specs.List.{Contains}
@@ -6,7 +6,7 @@ use Rattle.std.specs.Option.{option_map}
 use Rattle.std.proofs.lemmas.Int.{ints}
 use Rattle.std.proofs.lemmas.Option.{slice_get-map, slice_get_within, get_or_from_slice_get}
 use Rattle.cert_format.specs.declared.line.CertLine.{CertLine}
-use Rattle.cert_format.proofs.PassingLemmas.{unless_ok}
+use Rattle.cert_format.proofs.PassedStepLemmas.{unless_ok}
 use Rattle.cert_checker.specs.Lines.{line_at, at_least, is_negative}
 
 le_is : (a b : ℤ) → int_le a b ≡ true → a ≤ℤ b

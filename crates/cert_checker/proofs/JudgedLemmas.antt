@@ -13,10 +13,10 @@ use Rattle.net_model.specs.declared.part.Edge.{Edge}
 use Rattle.cert_format.specs.declared.entry.Entry.{Entry}
 use Rattle.cert_format.specs.declared.certificate.Certificate.TheVariants.{TableProof}
 use Rattle.cert_format.specs.JudgementForms.{◌>>=◌, unless}
-use Rattle.cert_checker.specs.Ending.{IsAcceptedTable, JudgesTable}
+use Rattle.cert_checker.specs.TestOutcomes.{IsAcceptedTable, JudgesTable}
 use Rattle.cert_checker.specs.Judgement.{judged, judgement_of}
 use Rattle.cert_checker.specs.TableRefusals.{IsFirst, IsNone, IsFirstFault, ReadsEach, IsRead, HasBase, IsOrdered, IsRefusedTable, line_of_order, line_of_entry, lacks_base, stands_twice, lacks_point, edge_rises, not_closed}
-use Rattle.cert_checker.specs.Tables.{base_of, edges_pass, entry_passes, is_missing, is_open, none_missing, none_refused, ordered_passes, placed_passes, point_passes, read_each, refused_at, rises, stand_once, table_passes}
+use Rattle.cert_checker.specs.Tables.{base_of, edges_pass, entry_passes, is_missing, has_open_conclusion, none_missing, none_refused, ordered_passes, placed_passes, point_passes, read_each, refused_at, rises, stand_once, table_passes}
 use Rattle.cert_checker.specs.Walk.{WalkPasses, refusal}
 use Rattle.cert_checker.specs.declared.base.Base.{Base}
 use Rattle.cert_checker.specs.declared.judgement.CertFault.{CertFault}
@@ -25,8 +25,8 @@ use Rattle.cert_checker.specs.declared.judgement.Claim.{Claim}
 use Rattle.cert_checker.specs.declared.judgement.Claim.TheVariants.{Controllable}
 use Rattle.cert_checker.specs.declared.judgement.Judgement.{Judgement}
 use Rattle.cert_checker.specs.declared.judgement.Judgement.TheVariants.{Accepted, Refused}
-use Rattle.cert_checker.specs.declared.judgement.Refusal.{Refusal}
-use Rattle.cert_checker.proofs.EndingLemmas.{says_count}
+use Rattle.cert_checker.specs.declared.judgement.RefusedLine.{RefusedLine}
+use Rattle.cert_checker.proofs.TestOutcomeLemmas.{says_count}
 use Rattle.cert_checker.proofs.ListLemmas.{found_at, found_nowhere}
 use Rattle.cert_checker.proofs.TableRefusalLemmas.{said_then, stands_in}
 
@@ -63,7 +63,8 @@ module _ {A : Type 0} (test : A → Bool) where
   place_of_first items place item first =
       let within = slice_get_within items place item first.here in
       let here : get_or items place item ≡ item = get_or_from_slice_get items place item item first.here in
-      let count : position_or_len test items ≡ place = position_or_len_is test items place item (omega (arith, within)) (λ k below. first.before k (get_or items k item) below (slice_get-get_or items k item (omega (arith, below, within)))) (λ inside. ap test here ∙ first.holds) in
+      let count : position_or_len test items ≡ place = position_or_len_is test items place item (omega (arith, within)) (λ k below. first.before k (get_or items k item) below (slice_get-get_or items k item (omega (arith, below, within))))
+      (λ inside. ap test here ∙ first.holds) in
       ap (λ (n : ℕ). cond (nat_lt n (length items)) (Some n) None) count ∙ ap (λ (b : Bool). cond b (Some place) None) (lt-ltb place (length items) within)
 
   no_place : (items : List A) → IsNone (λ p. test) items → position test items ≡ None
@@ -100,7 +101,11 @@ stand_twice earlier (x ∷ xs) zero point first =
     ∙ ap (λ (n : ℕ). Err (refusal n OrderBroken)) (let e : length earlier + 1 ≡ length earlier + 1 + 0 = omega arith in e)
 stand_twice earlier (x ∷ xs) (suc place) point first =
     ap (once_then earlier x xs) (first_of earlier x false (first.before 0 x (omega arith) refl))
-    ∙ (stand_twice (earlier ++ x ∷ []) xs place point (record { here = first.here; holds = later earlier x xs place true point first.holds; before = λ other one below at. later earlier x xs other false one (first.before (suc other) one (omega (arith, below)) at) })
+    ∙ (stand_twice (earlier ++ x ∷ []) xs place point (record {
+      here = first.here;
+      holds = later earlier x xs place true point first.holds;
+      before = λ other one below at. later earlier x xs other false one (first.before (suc other) one (omega (arith, below)) at);
+    })
     ∙ ap (λ (n : ℕ). Err (refusal n OrderBroken)) (let pushed = length_push earlier x in omega (arith, pushed)))
 
 -- ---- all together
@@ -108,26 +113,28 @@ module _ (net : Plan) (order : List (List ℕ)) (entries : List Entry) where
   read_then : (points : List PointId) (edges : List Edge) → IsRead net order entries points edges → table_passes net order entries ≡ edges_pass net points edges
   unfolding table_passes
   read_then points edges reads =
-      ap (λ (r : Result (List PointId) Refusal). r >>= (λ ps. read_each (entry_passes net) (length order + 1) entries >>= (λ es. edges_pass net ps es))) (read_said (point_passes net) 1 order points reads.order_says)
-      ∙ ap (λ (r : Result (List Edge) Refusal). r >>= (λ es. edges_pass net points es)) (read_said (entry_passes net) (length order + 1) entries edges reads.entries_say)
+      ap (λ (r : Result (List PointId) RefusedLine). r >>= (λ ps. read_each (entry_passes net) (length order + 1) entries >>= (λ es. edges_pass net ps es))) (read_said (point_passes net) 1 order points reads.order_says)
+      ∙ ap (λ (r : Result (List Edge) RefusedLine). r >>= (λ es. edges_pass net points es)) (read_said (entry_passes net) (length order + 1) entries edges reads.entries_say)
 
   order_is_refused : (place : ℕ) (why : CertFault) → IsFirstFault (point_passes net) order place why → table_passes net order entries ≡ Err (refusal (1 + place) why)
   unfolding table_passes
   order_is_refused place why fault =
-      ap (λ (r : Result (List PointId) Refusal). r >>= (λ ps. read_each (entry_passes net) (length order + 1) entries >>= (λ es. edges_pass net ps es))) (read_refused (point_passes net) 1 order place why fault)
+      ap (λ (r : Result (List PointId) RefusedLine). r >>= (λ ps. read_each (entry_passes net) (length order + 1) entries >>= (λ es. edges_pass net ps es))) (read_refused (point_passes net) 1 order place why fault)
 
-  entries_are_refused : (points : List PointId) (place : ℕ) (why : CertFault) → ReadsEach (point_passes net) order points → IsFirstFault (entry_passes net) entries place why → table_passes net order entries ≡ Err (refusal (length order + 1 + place) why)
+  entries_are_refused : (points : List PointId) (place : ℕ) (why : CertFault) → ReadsEach (point_passes net) order points → IsFirstFault (entry_passes net) entries place why
+      → table_passes net order entries ≡ Err (refusal (length order + 1 + place) why)
   unfolding table_passes
   entries_are_refused points place why says fault =
-      ap (λ (r : Result (List PointId) Refusal). r >>= (λ ps. read_each (entry_passes net) (length order + 1) entries >>= (λ es. edges_pass net ps es))) (read_said (point_passes net) 1 order points says)
-      ∙ ap (λ (r : Result (List Edge) Refusal). r >>= (λ es. edges_pass net points es)) (read_refused (entry_passes net) (length order + 1) entries place why fault)
+      ap (λ (r : Result (List PointId) RefusedLine). r >>= (λ ps. read_each (entry_passes net) (length order + 1) entries >>= (λ es. edges_pass net ps es))) (read_said (point_passes net) 1 order points says)
+      ∙ ap (λ (r : Result (List Edge) RefusedLine). r >>= (λ es. edges_pass net points es)) (read_refused (entry_passes net) (length order + 1) entries place why fault)
 
   module _ (points : List PointId) (edges : List Edge) where
     abbrev closing : WalkPasses
-    closing = none_refused (length points + 1) NotClosed (is_open net edges) edges
+    closing = none_refused (length points + 1) NotClosed (has_open_conclusion net edges) edges
 
     based_then : HasBase net order entries points edges → table_passes net order entries ≡ ordered_passes net points edges
-    based_then has = read_then points edges has.is_read ∙ ap (λ (found : Option Base). none_missing found >>= (λ w. ordered_passes net points edges)) (found_nowhere (is_missing edges) (base_of net) (no_place (is_missing edges) (base_of net) has.base))
+    based_then has = read_then points edges has.is_read ∙ ap (λ (found : Option Base). none_missing found >>= (λ w. ordered_passes net points edges))
+        (found_nowhere (is_missing edges) (base_of net) (no_place (is_missing edges) (base_of net) has.base))
 
     ordered_then : IsOrdered net order entries points edges → table_passes net order entries ≡ (none_refused (length points + 1) OrderBroken (rises points) edges >>= (λ w. closing))
     ordered_then is =
@@ -135,8 +142,8 @@ module _ (net : Plan) (order : List (List ℕ)) (entries : List Entry) where
         ∙ (ap (λ (once : WalkPasses). (once >>= (λ w. placed_passes net points edges)) >>= (λ w. closing)) (stand_none [] points is.once)
         ∙ ap (λ (b : Bool). (unless b (refusal 0 OrderBroken) >>= (λ w. none_refused (length points + 1) OrderBroken (rises points) edges)) >>= (λ w. closing)) is.complete)
 
-    falling_then : IsOrdered net order entries points edges → IsNone (λ place. rises points) edges → table_passes net order entries ≡ closing
-    falling_then is falls = ordered_then is ∙ ap (λ (p : WalkPasses). p >>= (λ w. closing)) (refused_none (rises points) (length points + 1) OrderBroken edges falls)
+    descending_then : IsOrdered net order entries points edges → IsNone (λ place. rises points) edges → table_passes net order entries ≡ closing
+    descending_then is descends = ordered_then is ∙ ap (λ (p : WalkPasses). p >>= (λ w. closing)) (refused_none (rises points) (length points + 1) OrderBroken edges descends)
 
     -- the line of an entry
     at_entry : HasBase net order entries points edges → (place : ℕ) (why : CertFault) → refusal (length points + 1 + place) why ≡ refusal (length order + 1 + place) why
@@ -158,14 +165,14 @@ module _ (net : Plan) (order : List (List ℕ)) (entries : List Entry) where
   refused_so line why (edge_rises points edges place edge is first) =
       ordered_then points edges is
       ∙ (ap (λ (p : WalkPasses). p >>= (λ w. closing points edges)) (refused_first (rises points) (length points + 1) OrderBroken edges place edge first)
-      ∙ ap (λ (r : Refusal). Err r) (at_entry points edges is.has_base place OrderBroken))
-  refused_so line why (not_closed points edges place edge is falls first) =
-      falling_then points edges is falls
-      ∙ (refused_first (is_open net edges) (length points + 1) NotClosed edges place edge first
-      ∙ ap (λ (r : Refusal). Err r) (at_entry points edges is.has_base place NotClosed))
+      ∙ ap (λ (r : RefusedLine). Err r) (at_entry points edges is.has_base place OrderBroken))
+  refused_so line why (not_closed points edges place edge is descends first) =
+      descending_then points edges is descends
+      ∙ (refused_first (has_open_conclusion net edges) (length points + 1) NotClosed edges place edge first
+      ∙ ap (λ (r : RefusedLine). Err r) (at_entry points edges is.has_base place NotClosed))
 
   accepted_so : IsAcceptedTable net order entries → table_passes net order entries ≡ Ok tt
-  accepted_so is = falling_then is.points is.edges is.ordered is.falls ∙ refused_none (is_open net is.edges) (length is.points + 1) NotClosed is.edges is.closed
+  accepted_so is = descending_then is.points is.edges is.ordered is.descends ∙ refused_none (has_open_conclusion net is.edges) (length is.points + 1) NotClosed is.edges is.closed
 
   -- what is said of a table proof is its judgement
   pub judged_so : (judgement : Judgement) → JudgesTable net order entries judgement → judgement ≡ judgement_of net (TableProof order entries)

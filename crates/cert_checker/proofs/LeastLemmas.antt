@@ -1,4 +1,4 @@
--- The least weights of entries, in rows of words: an edge stands among entries just where its key has at most its weight.
+-- The least weights of entries, in rows of words: an edge stands among entries exactly if its key has at most its weight.
 use Rattle.std.proofs.Common.{◌≡◌, ◌≢◌, ℕ, ◌<◌, ◌==◌, ℤ, Bool, true, false, cond, ◌&&◌, List, [], length, get_or, get_or-set_same, get_or-set_other, length-set, replicate, Option, Some, None, refl, sym, ap, ◌∙◌, subst, arith}
 use Rattle.std.specs.Int.{int_min}
 use Rattle.std.specs.List.{All}
@@ -11,7 +11,7 @@ use Rattle.net_model.specs.Edges.{IsEdge, IsLabelled}
 use Rattle.net_model.specs.declared.ids.PointId.{PointId}
 use Rattle.net_model.specs.declared.ids.LinkId.{LinkId}
 use Rattle.net_model.specs.declared.part.Edge.{Edge}
-use Rattle.cert_checker.specs.Least.{absent, Weights, row_in, row_by, IsPlacedIn, HasPlaceInTable, IsPlacedBefore, IsFor, no_weights, lowered_row, lowered_rows, with_entry_by, with_entry}
+use Rattle.cert_checker.specs.Least.{absent, Weights, row_in, row_by, IsPlacedIn, HasPlaceInTable, IsPlacedBefore, IsSizedFor, no_weights, lowered_row, lowered_rows, with_entry_by, with_entry}
 
 -- ---- rows
 pub row_length : (points : ℕ) (rows : List (List ℤ)) (place : ℕ) → All (λ (row : List ℤ). length row ≡ points) rows → place < length rows → length (row_in rows place) ≡ points
@@ -22,7 +22,7 @@ lowered_lengths points rows place from weight all within =
     let same : length (lowered_row (row_in rows place) from weight) ≡ points = length-set (row_in rows place) from _ ∙ row_length points rows place all within in
     All-set (λ (row : List ℤ). length row ≡ points) rows place (lowered_row (row_in rows place) from weight) same all
 
-pub for_none : (points links : ℕ) → IsFor points links (no_weights points links)
+pub for_none : (points links : ℕ) → IsSizedFor points links (no_weights points links)
 for_none points links = record {
   targets = length-replicate points _;
   labels = length-replicate links _;
@@ -30,7 +30,8 @@ for_none points links = record {
   labelled_rows = All-replicate (λ (row : List ℤ). length row ≡ points) links (replicate points absent) (length-replicate points absent);
 }
 
-for_entry_by : (points links : ℕ) (table : Weights) (to : PointId) (label : Option LinkId) (from : ℕ) (weight : ℤ) → IsFor points links table → IsPlacedIn table to label from → IsFor points links (with_entry_by table to label from weight)
+for_entry_by : (points links : ℕ) (table : Weights) (to : PointId) (label : Option LinkId) (from : ℕ) (weight : ℤ) → IsSizedFor points links table → IsPlacedIn table to label from
+    → IsSizedFor points links (with_entry_by table to label from weight)
 for_entry_by points links table to None from weight is placed = record {
   targets = length-set table.ordinary to.0 _ ∙ is.targets;
   labels = is.labels;
@@ -44,12 +45,13 @@ for_entry_by points links table to (Some name) from weight is placed = record {
   labelled_rows = lowered_lengths points table.labelled name.0 from weight is.labelled_rows placed.0;
 }
 
-pub for_entry : (points links : ℕ) (table : Weights) (edge : Edge) → IsFor points links table → HasPlaceInTable table edge → IsFor points links (with_entry table edge)
+pub for_entry : (points links : ℕ) (table : Weights) (edge : Edge) → IsSizedFor points links table → HasPlaceInTable table edge → IsSizedFor points links (with_entry table edge)
 for_entry points links table edge is placed =
     for_entry_by points links table edge.to edge.label edge.from.0 edge.weight is placed
 
 -- a key of the network has its word
-placed_by : (net : Plan) (table : Weights) (edge : Edge) (label : Option LinkId) → IsFor (length net.points) (length net.links) table → IsPoint net edge.from → IsPoint net edge.to → IsLabelled net edge label → IsPlacedIn table edge.to label edge.from.0
+placed_by : (net : Plan) (table : Weights) (edge : Edge) (label : Option LinkId) → IsSizedFor (length net.points) (length net.links) table → IsPoint net edge.from → IsPoint net edge.to → IsLabelled net edge label
+    → IsPlacedIn table edge.to label edge.from.0
 placed_by net table edge None is from to labelled =
     let within : edge.to.0 < length table.ordinary = omega (arith, is.targets, to) in
     (within, subst (λ n. edge.from.0 < n) (sym (row_length (length net.points) table.ordinary edge.to.0 is.ordinary_rows within)) from)
@@ -58,14 +60,14 @@ placed_by net table edge (Some name) is from to labelled =
     let within : name.0 < length table.labelled = omega (arith, is.labels, few) in
     (within, subst (λ n. edge.from.0 < n) (sym (row_length (length net.points) table.labelled name.0 is.labelled_rows within)) from)
 
-pub placed : (net : Plan) (table : Weights) (edge : Edge) → IsFor (length net.points) (length net.links) table → IsEdge net edge → HasPlaceInTable table edge
+pub placed : (net : Plan) (table : Weights) (edge : Edge) → IsSizedFor (length net.points) (length net.links) table → IsEdge net edge → HasPlaceInTable table edge
 placed net table edge is sound = placed_by net table edge edge.label is sound.from_point sound.to_point sound.labelled
 
-row_by_length : (net : Plan) (table : Weights) (to : PointId) (label : Option LinkId) (from : ℕ) → IsFor (length net.points) (length net.links) table → IsPlacedIn table to label from → length (row_by table to label) ≡ length net.points
+row_by_length : (net : Plan) (table : Weights) (to : PointId) (label : Option LinkId) (from : ℕ) → IsSizedFor (length net.points) (length net.links) table → IsPlacedIn table to label from → length (row_by table to label) ≡ length net.points
 row_by_length net table to None from is placed = row_length (length net.points) table.ordinary to.0 is.ordinary_rows placed.0
 row_by_length net table to (Some name) from is placed = row_length (length net.points) table.labelled name.0 is.labelled_rows placed.0
 
-pub placed_before : (net : Plan) (table : Weights) (second : Edge) → IsFor (length net.points) (length net.links) table → IsEdge net second → IsPlacedBefore table second
+pub placed_before : (net : Plan) (table : Weights) (second : Edge) → IsSizedFor (length net.points) (length net.links) table → IsEdge net second → IsPlacedBefore table second
 placed_before net table second is sound =
     let from = sound.from_point in
     let within : second.from.0 < length table.ordinary = omega (arith, is.targets, from) in

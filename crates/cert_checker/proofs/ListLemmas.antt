@@ -11,7 +11,7 @@ use Rattle.std.proofs.lemmas.List.Folds.{list_any-from_Any, Any-from_list_any}
 use Rattle.std.proofs.lemmas.List.Elements.{All-get_or}
 use Rattle.net_model.proofs.Positions.{list_any_from_None}
 
--- two tests agree where each passes with the other
+-- two tests agree if each passes with the other
 pub same_test : (a b : Bool) → (a ≡ true → b ≡ true) → (b ≡ true → a ≡ true) → a ≡ b
 same_test true b there back = sym (there refl)
 same_test false true there back = back refl
@@ -51,7 +51,7 @@ pub any_mapped : {A B : Type 0} (test : B → Bool) (f : A → B) (xs : List A) 
 any_mapped test f [] = refl
 any_mapped test f (x ∷ xs) = ap (λ (b : Bool). test (f x) || b) (any_mapped test f xs)
 
--- where no first item that passes is found, none passes
+-- if no first item that passes is found, none passes
 pub none_at : {A : Type 0} (test : A → Bool) (xs : List A) (x : A) → position test xs ≡ None → Contains xs x → test x ≡ false
 none_at test xs x none among = none_passes test xs x (list_any_from_None test xs none) among
 

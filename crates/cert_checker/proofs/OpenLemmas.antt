@@ -1,5 +1,4 @@
--- What is looked up in the least weights of entries is what the definition asks: an edge stands among the entries just where its
--- key has at most its weight, and of the first premises of a key only the least matters.
+-- What is looked up in the least weights of entries is what the definition requires: an edge stands among the entries exactly if its key has at most its weight, and of the first premises of a key only the least matters.
 use Rattle.std.proofs.Common.{◌≡◌, ℕ, ◌==◌, ℤ, ◌<ℤ◌, Bool, true, false, cond, ◌&&◌, ◌||◌, List, [], ◌∷◌, ◌++◌, length, get_or, replicate, Option, Some, None, zero, suc, refl, sym, ap, ◌∙◌, subst, arith}
 use Rattle.std.specs.Prelude.{int_le, fold}
 use Rattle.std.specs.Int.{int_min}
@@ -19,7 +18,7 @@ use Rattle.net_model.specs.declared.part.Edge.{Edge}
 use Rattle.net_model.specs.declared.part.Link.{Link}
 use Rattle.cert_checker.specs.Tables.{same_label_id, same_key, stands_among}
 use Rattle.cert_checker.specs.Sound.{IsSoundEdge}
-use Rattle.cert_checker.specs.Least.{absent, Weights, row_by, weight_in, IsPlacedIn, HasPlaceInTable, IsFor, no_weights, with_entry_by, with_entry, least_of, has_at_most}
+use Rattle.cert_checker.specs.Least.{absent, Weights, row_by, weight_in, IsPlacedIn, HasPlaceInTable, IsSizedFor, no_weights, with_entry_by, with_entry, least_of, has_word_at_most}
 use Rattle.cert_checker.proofs.LeastLemmas.{for_none, for_entry, placed, word_after}
 
 -- ---- the words of a table with one entry more
@@ -98,9 +97,9 @@ lowers_by net table x e (Some n) (Some m) placed xs es =
         none_of true false = refl
         none_of false b = refl
 
--- ---- an edge stands among entries just where its key has at most its weight
+-- ---- an edge stands among entries exactly if its key has at most its weight
 abbrev pub IsLeast : Plan → List Edge → Weights → Type 0
-IsLeast net edges table = (edge : Edge) → IsEdge net edge → edge.weight <ℤ absent → has_at_most table edge ≡ stands_among edges edge
+IsLeast net edges table = (edge : Edge) → IsEdge net edge → edge.weight <ℤ absent → has_word_at_most table edge ≡ stands_among edges edge
 
 least_none : (net : Plan) → IsLeast net [] (no_weights (length net.points) (length net.links))
 least_none net edge sound small =
@@ -109,29 +108,31 @@ least_none net edge sound small =
     above : (w : ℤ) → w <ℤ absent → int_le absent w ≡ false
     above w small = grind (arith, ints)
 
-least_more : (net : Plan) (front : List Edge) (table : Weights) (x : Edge) → HasPlaceInTable table x → IsEdge net x → IsLeast net front table → IsLeast net (front ++ x ∷ []) (with_entry table x)
-least_more net front table x is_placed sound least edge is small =
+least_more : (net : Plan) (prefix : List Edge) (table : Weights) (x : Edge) → HasPlaceInTable table x → IsEdge net x → IsLeast net prefix table → IsLeast net (prefix ++ x ∷ []) (with_entry table x)
+least_more net prefix table x is_placed sound least edge is small =
     ap (λ (w : ℤ). int_le w edge.weight) (lowers_by net table x edge x.label edge.label is_placed sound.labelled is.labelled)
     ∙ by (same_key x edge) refl
-    ∙ sym (list_any-append (λ entry. same_key entry edge && int_le entry.weight edge.weight) front (x ∷ []))
+    ∙ sym (list_any-append (λ entry. same_key entry edge && int_le entry.weight edge.weight) prefix (x ∷ []))
   where
     lower : (a b w : ℤ) → int_le (int_min a b) w ≡ (int_le a w || (int_le b w || false))
     lower a b w = grind (arith, ints)
 
-    old : int_le (weight_in table edge) edge.weight ≡ stands_among front edge
+    old : int_le (weight_in table edge) edge.weight ≡ stands_among prefix edge
     old = least edge is small
 
-    by : (b : Bool) → same_key x edge ≡ b → int_le (cond (same_key x edge) (int_min (weight_in table edge) x.weight) (weight_in table edge)) edge.weight ≡ (stands_among front edge || ((same_key x edge && int_le x.weight edge.weight) || false))
+    by : (b : Bool) → same_key x edge ≡ b → int_le (cond (same_key x edge) (int_min (weight_in table edge) x.weight) (weight_in table edge)) edge.weight ≡
+        (stands_among prefix edge || ((same_key x edge && int_le x.weight edge.weight) || false))
     by true same = rw same (lower (weight_in table edge) x.weight edge.weight ∙ ap (λ (b : Bool). b || (int_le x.weight edge.weight || false)) old)
-    by false same = rw same (old ∙ sym (or-false (stands_among front edge)))
+    by false same = rw same (old ∙ sym (or-false (stands_among prefix edge)))
 
 -- the table of entries
-least_from : (net : Plan) (front edges : List Edge) (table : Weights) → AllByRecursion (IsSoundEdge net) edges → IsFor (length net.points) (length net.links) table → IsLeast net front table → IsLeast net (front ++ edges) (fold with_entry table edges)
-least_from net front [] table sound shape least = subst (λ (all : List Edge). IsLeast net all table) (sym (append-nil front)) least
-least_from net front (x ∷ edges) table sound shape least =
+least_from : (net : Plan) (prefix edges : List Edge) (table : Weights) → AllByRecursion (IsSoundEdge net) edges → IsSizedFor (length net.points) (length net.links) table → IsLeast net prefix table
+    → IsLeast net (prefix ++ edges) (fold with_entry table edges)
+least_from net prefix [] table sound shape least = subst (λ (all : List Edge). IsLeast net all table) (sym (append-nil prefix)) least
+least_from net prefix (x ∷ edges) table sound shape least =
     let is_placed = placed net table x shape sound.0.is_edge in
-    subst (λ (all : List Edge). IsLeast net all (fold with_entry (with_entry table x) edges)) (append_assoc front (x ∷ []) edges)
-    (least_from net (front ++ x ∷ []) edges (with_entry table x) sound.1 (for_entry (length net.points) (length net.links) table x shape is_placed) (least_more net front table x is_placed sound.0.is_edge least))
+    subst (λ (all : List Edge). IsLeast net all (fold with_entry (with_entry table x) edges)) (append_assoc prefix (x ∷ []) edges)
+    (least_from net (prefix ++ x ∷ []) edges (with_entry table x) sound.1 (for_entry (length net.points) (length net.links) table x shape is_placed) (least_more net prefix table x is_placed sound.0.is_edge least))
 
 pub is_least : (net : Plan) (edges : List Edge) → All (IsSoundEdge net) edges → IsLeast net edges (least_of net edges)
 is_least net edges sound =

@@ -1,6 +1,7 @@
--- By its look-ups an entry gives an edge whose key has no such weight just where by the definition something of what the rules give
+-- By its look-ups an entry gives an edge whose key has no such weight exactly if by the definition something of what the rules give
 -- with it does not stand among the entries.
-use Rattle.std.proofs.Common.{◌≡◌, ◌≢◌, ◌⊎◌, ℕ, ◌<◌, ◌≤◌, ◌==◌, ℤ, pos, ◌<ℤ◌, ◌≤ℤ◌, ◌+ℤ◌, ◌-ℤ◌, Bool, true, false, not, cond, ◌&&◌, ◌||◌, List, [], ◌∷◌, ◌++◌, length, get_or, Option, Some, None, zero, suc, position, refl, sym, ap, ◌∙◌, subst, arith, inl, inr, unsigned_abs}
+use Rattle.std.proofs.Common.{◌≡◌, ◌≢◌, ◌⊎◌, ℕ, ◌<◌, ◌≤◌, ◌==◌, ℤ, pos, ◌<ℤ◌, ◌≤ℤ◌, ◌+ℤ◌, ◌-ℤ◌, Bool, true, false, not, cond, ◌&&◌, ◌||◌, List, [], ◌∷◌, ◌++◌, length, get_or, Option, Some, None, zero, suc, position, refl, sym, ap, ◌∙◌}
+use Rattle.std.proofs.Common.{subst, arith, inl, inr, unsigned_abs}
 use Rattle.std.specs.Prelude.{slice_get, int_le, int_lt, nat_lt}
 use Rattle.std.specs.Int.{int_max}
 use Rattle.std.specs.List.{All, Contains, list_any, filter_map, position_or_len}
@@ -24,14 +25,14 @@ use Rattle.net_model.specs.declared.part.Edge.{Edge}
 use Rattle.net_model.specs.declared.part.Link.{Link}
 use Rattle.net_model.proofs.RuleLemmas.{no_case_gives, upper_case_gives, lower_case_gives, cross_case_gives, removal_gives}
 use Rattle.cert_checker.specs.Lines.{in_range}
-use Rattle.cert_checker.specs.Tables.{same_label_id, same_key, stands_among, link_ids, is_open}
+use Rattle.cert_checker.specs.Tables.{same_label_id, same_key, stands_among, link_ids, has_open_conclusion}
 use Rattle.cert_checker.specs.Sound.{IsSoundEdge}
-use Rattle.cert_checker.specs.Least.{absent, Weights, row_in, row_by, row_of, weight_in, IsFor, IsSmallEdge, falls, falls_in, has_at_most}
-use Rattle.cert_checker.specs.Opening.{is_unmet, is_open_before, is_open_after}
+use Rattle.cert_checker.specs.Least.{absent, Weights, row_in, row_by, row_of_words, weight_in, IsSizedFor, IsSmallEdge, descends, improves_in, has_word_at_most}
+use Rattle.cert_checker.specs.OpenEntries.{is_unsaturated, is_open_before, is_open_after}
 use Rattle.cert_checker.proofs.Inversion.{contains_at}
 use Rattle.cert_checker.proofs.ListLemmas.{some_passes, passes_some, holds_of, any_given, place_within}
 use Rattle.cert_checker.proofs.LeastLemmas.{placed_before, row_length}
-use Rattle.cert_checker.proofs.RowLemmas.{falls_somewhere, falls_at}
+use Rattle.cert_checker.proofs.RowLemmas.{improves_somewhere, improves_at}
 use Rattle.cert_checker.proofs.OpenLemmas.{IsLeast}
 use Rattle.cert_checker.proofs.TableLaw.{key_same, link_among}
 
@@ -107,14 +108,16 @@ goes_test : (link : Link) (second : Edge) → second.from ≡ link.to → second
 goes_test link second begins below =
     both_true (second.from.0 == link.to.0) (is_negative second) (number_test second.from.0 link.to.0 (ap (λ (p : PointId). p.0) begins)) (negative_test second below)
 
-lower_case_applies : (net : Plan) (name : LinkId) (link : Link) (second : Edge) → IsLinkOf net name link → second.label ≡ None → second.from ≡ link.to → second.weight <ℤ pos 0 → lower_case net name second ≡ Some (moved_to_activation link second)
+lower_case_applies : (net : Plan) (name : LinkId) (link : Link) (second : Edge) → IsLinkOf net name link → second.label ≡ None → second.from ≡ link.to → second.weight <ℤ pos 0
+    → lower_case net name second ≡ Some (moved_to_activation link second)
 unfolding lower_case
 lower_case_applies net name link second declared two begins below =
     let second_is : is_ordinary second ≡ true = ordinary_test second two in
     let goes : goes_on_from link second ≡ true = goes_test link second begins below in
     rw (declared, second_is, goes) refl
 
-cross_case_applies : (net : Plan) (name : LinkId) (link : Link) (second : Edge) (label : LinkId) → IsLinkOf net name link → second.label ≡ Some label → is_labelled_by name second ≡ false → second.from ≡ link.to → second.weight <ℤ pos 0 → cross_case net name second ≡ Some (moved_to_activation link second)
+cross_case_applies : (net : Plan) (name : LinkId) (link : Link) (second : Edge) (label : LinkId) → IsLinkOf net name link → second.label ≡ Some label → is_labelled_by name second ≡ false → second.from ≡ link.to → second.weight <ℤ pos 0
+    → cross_case net name second ≡ Some (moved_to_activation link second)
 unfolding cross_case
 cross_case_applies net name link second label declared two other begins below =
     let second_is : is_labelled second ≡ true = labelled_test second label two in
@@ -189,8 +192,8 @@ link_there net point name is = by (position (λ (l : Link). l.to.0 == point.0) n
             ap (λ (n : ℕ). let x : PointId = record { 0 = n } in x) number
 
 -- ---- arithmetic
-falls_by : (v f w t : ℤ) → v ≤ℤ f → f <ℤ absent → int_le t (int_max f (pos 0) +ℤ w) ≡ false → falls v t w ≡ true
-falls_by v f w t less small over = both_true (int_lt v absent) (int_lt (int_max v (pos 0) +ℤ w) t) (first v f less small) (second v f w t less over)
+is_less_by : (v f w t : ℤ) → v ≤ℤ f → f <ℤ absent → int_le t (int_max f (pos 0) +ℤ w) ≡ false → descends v t w ≡ true
+is_less_by v f w t less small over = both_true (int_lt v absent) (int_lt (int_max v (pos 0) +ℤ w) t) (first v f less small) (second v f w t less over)
   where
     first : (v f : ℤ) → v ≤ℤ f → f <ℤ absent → int_lt v absent ≡ true
     first v f less small = grind (arith, ints)
@@ -198,8 +201,8 @@ falls_by v f w t less small over = both_true (int_lt v absent) (int_lt (int_max 
     second : (v f w t : ℤ) → v ≤ℤ f → int_le t (int_max f (pos 0) +ℤ w) ≡ false → int_lt (int_max v (pos 0) +ℤ w) t ≡ true
     second v f w t less over = grind (arith, ints, int_max_is)
 
-falls_over : (v f w t : ℤ) → f ≤ℤ v → int_lt (int_max v (pos 0) +ℤ w) t ≡ true → int_le t (int_max f (pos 0) +ℤ w) ≡ false
-falls_over v f w t less below = grind (arith, ints, int_max_is)
+improves_over : (v f w t : ℤ) → f ≤ℤ v → int_lt (int_max v (pos 0) +ℤ w) t ≡ true → int_le t (int_max f (pos 0) +ℤ w) ≡ false
+improves_over v f w t less below = grind (arith, ints, int_max_is)
 
 self_le : (v : ℤ) → int_le v v ≡ true
 self_le v = grind (arith, ints)
@@ -230,24 +233,24 @@ link_short net link is =
     within_is w is = grind (arith, nat_tests)
 
 -- ---- what does not stand
-abbrev unmet : List Edge → Edge → Bool
-unmet edges edge = not (stands_among edges edge)
+abbrev unsaturated : List Edge → Edge → Bool
+unsaturated edges edge = not (stands_among edges edge)
 
-unmet_given : (edges : List Edge) (given : Option Edge) → is_unmet edges given ≡ true → (edge : Edge) × (given ≡ Some edge) × (unmet edges edge ≡ true)
-unmet_given edges None is = absurd (cc)
-unmet_given edges (Some edge) is = (edge, refl, is)
+unsaturated_given : (edges : List Edge) (given : Option Edge) → is_unsaturated edges given ≡ true → (edge : Edge) × (given ≡ Some edge) × (unsaturated edges edge ≡ true)
+unsaturated_given edges None is = absurd (cc)
+unsaturated_given edges (Some edge) is = (edge, refl, is)
 
-given_unmet : (edges : List Edge) (given : Option Edge) (edge : Edge) → given ≡ Some edge → unmet edges edge ≡ true → is_unmet edges given ≡ true
-given_unmet edges given edge is lacking = ap (is_unmet edges) is ∙ lacking
+given_unsaturated : (edges : List Edge) (given : Option Edge) (edge : Edge) → given ≡ Some edge → unsaturated edges edge ≡ true → is_unsaturated edges given ≡ true
+given_unsaturated edges given edge is lacking = ap (is_unsaturated edges) is ∙ lacking
 
-none_given : (edges : List Edge) (given : Option Edge) → ((edge : Edge) → given ≡ Some edge → ⊥) → is_unmet edges given ≡ false
+none_given : (edges : List Edge) (given : Option Edge) → ((edge : Edge) → given ≡ Some edge → ⊥) → is_unsaturated edges given ≡ false
 none_given edges None none = refl
 none_given edges (Some edge) none = absurd (none edge refl)
 
 -- ---- the look-ups
-module _ (net : Plan) (edges : List Edge) (sound : All (IsSoundEdge net) edges) (table : Weights) (shape : IsFor (length net.points) (length net.links) table) (least : IsLeast net edges table) where
-  unmet_is : (edge : Edge) → IsEdge net edge → edge.weight <ℤ absent → unmet edges edge ≡ not (has_at_most table edge)
-  unmet_is edge is small = ap not (sym (least edge is small))
+module _ (net : Plan) (edges : List Edge) (sound : All (IsSoundEdge net) edges) (table : Weights) (shape : IsSizedFor (length net.points) (length net.links) table) (least : IsLeast net edges table) where
+  unsaturated_is : (edge : Edge) → IsEdge net edge → edge.weight <ℤ absent → unsaturated edges edge ≡ not (has_word_at_most table edge)
+  unsaturated_is edge is small = ap not (sym (least edge is small))
 
   sound_at : (first : Edge) → Contains edges first → IsSoundEdge net first
   sound_at first among = holds_of (IsSoundEdge net) edges first sound among
@@ -259,7 +262,8 @@ module _ (net : Plan) (edges : List Edge) (sound : All (IsSoundEdge net) edges) 
   entry_word : (first : Edge) → Contains edges first → weight_in table first ≤ℤ first.weight
   entry_word first among =
       let is = sound_at first among in
-      let stands : stands_among edges first ≡ true = passes_some (λ e. same_key e first && int_le e.weight first.weight) edges first among (both_true (same_key first first) (int_le first.weight first.weight) (own_key first) (self_le first.weight)) in
+      let stands : stands_among edges first ≡ true = passes_some (λ e. same_key e first && int_le e.weight first.weight) edges first among
+      (both_true (same_key first first) (int_le first.weight first.weight) (own_key first) (self_le first.weight)) in
       le_is (weight_in table first) first.weight (least first is.is_edge (small_weight first.weight (within_at first is)) ∙ stands)
     where
       own_label : (label : Option LinkId) → same_label_id label label ≡ true
@@ -267,7 +271,8 @@ module _ (net : Plan) (edges : List Edge) (sound : All (IsSoundEdge net) edges) 
       own_label (Some name) = number_test name.0 name.0 refl
 
       own_key : (edge : Edge) → same_key edge edge ≡ true
-      own_key edge = both_true ((edge.from.0 == edge.from.0) && (edge.to.0 == edge.to.0)) (same_label_id edge.label edge.label) (both_true (edge.from.0 == edge.from.0) (edge.to.0 == edge.to.0) (number_test edge.from.0 edge.from.0 refl) (number_test edge.to.0 edge.to.0 refl)) (own_label edge.label)
+      own_key edge = both_true ((edge.from.0 == edge.from.0) && (edge.to.0 == edge.to.0)) (same_label_id edge.label edge.label)
+          (both_true (edge.from.0 == edge.from.0) (edge.to.0 == edge.to.0) (number_test edge.from.0 edge.from.0 refl) (number_test edge.to.0 edge.to.0 refl)) (own_label edge.label)
 
   module _ (second : Edge) (is_second : IsSoundEdge net second) where
     joined_edge : (first : Edge) → IsPoint net first.from → IsEdge net (joined first second)
@@ -282,39 +287,41 @@ module _ (net : Plan) (edges : List Edge) (sound : All (IsSoundEdge net) edges) 
         let count = shape.targets in
         row_length (length net.points) table.ordinary second.from.0 shape.ordinary_rows (omega (arith, from, count))
 
-    others_count : length (row_of table second) ≡ length net.points
+    others_count : length (row_of_words table second) ≡ length net.points
     others_count = sym (placed_before net table second shape is_second.is_edge).1 ∙ firsts_count
 
-    -- the word of a first premise falls
-    abbrev pub words_fall : Bool
-    words_fall = falls_in (row_in table.ordinary second.from.0) (row_of table second) second.weight
+    -- the word of a first premise improves
+    abbrev pub words_improve : Bool
+    words_improve = improves_in (row_in table.ordinary second.from.0) (row_of_words table second) second.weight
 
     -- a first premise after which something does not stand, and its word
-    before_opens : (first : Edge) → Contains edges first → first.label ≡ None → first.to ≡ second.from → unmet edges (joined first second) ≡ true → words_fall ≡ true
+    before_opens : (first : Edge) → Contains edges first → first.label ≡ None → first.to ≡ second.from → unsaturated edges (joined first second) ≡ true → words_improve ≡ true
     before_opens first among ordinary meeting lacking =
         let is = sound_at first among in
         let from = is.is_edge.from_point in
-        let word : weight_in table first ≡ get_or (row_in table.ordinary second.from.0) first.from.0 absent = ap (λ (l : Option LinkId). get_or (row_by table first.to l) first.from.0 absent) ordinary ∙ ap (λ (p : PointId). get_or (row_in table.ordinary p.0) first.from.0 absent) meeting in
+        let word : weight_in table first ≡ get_or (row_in table.ordinary second.from.0) first.from.0 absent = ap (λ (l : Option LinkId). get_or (row_by table first.to l) first.from.0 absent) ordinary
+        ∙ ap (λ (p : PointId). get_or (row_in table.ordinary p.0) first.from.0 absent) meeting in
         let less : get_or (row_in table.ordinary second.from.0) first.from.0 absent ≤ℤ first.weight = subst (λ (w : ℤ). w ≤ℤ first.weight) word (entry_word first among) in
-        let over : has_at_most table (joined first second) ≡ false = not_true_is (has_at_most table (joined first second)) (sym (unmet_is (joined first second) (joined_edge first from) (small_joined first.weight second.weight (within_at first is) second_few)) ∙ lacking) in
+        let over : has_word_at_most table (joined first second) ≡ false = not_true_is (has_word_at_most table (joined first second))
+        (sym (unsaturated_is (joined first second) (joined_edge first from) (small_joined first.weight second.weight (within_at first is) second_few)) ∙ lacking) in
         let there : first.from.0 < length (row_in table.ordinary second.from.0) = omega (arith, from, firsts_count) in
-        let also : first.from.0 < length (row_of table second) = omega (arith, from, others_count) in
-        falls_at (row_in table.ordinary second.from.0) (row_of table second) second.weight first.from.0 there also
-        (falls_by (get_or (row_in table.ordinary second.from.0) first.from.0 absent) first.weight second.weight (get_or (row_of table second) first.from.0 absent) less (small_weight first.weight (within_at first is)) over)
+        let also : first.from.0 < length (row_of_words table second) = omega (arith, from, others_count) in
+        improves_at (row_in table.ordinary second.from.0) (row_of_words table second) second.weight first.from.0 there also
+        (is_less_by (get_or (row_in table.ordinary second.from.0) first.from.0 absent) first.weight second.weight (get_or (row_of_words table second) first.from.0 absent) less (small_weight first.weight (within_at first is)) over)
 
     -- what an opening before an edge shows
     record OpensWith (first : Edge) : Type 0 where
       among : Contains edges first
       ordinary : first.label ≡ None
       meeting : first.to ≡ second.from
-      lacking : unmet edges (joined first second) ≡ true
+      lacking : unsaturated edges (joined first second) ≡ true
 
-    opening : words_fall ≡ true → (first : Edge) × OpensWith first
+    opening : words_improve ≡ true → (first : Edge) × OpensWith first
     opening is =
-        let (k, within, falls) = falls_somewhere (row_in table.ordinary second.from.0) (row_of table second) second.weight is in
+        let (k, within, descends) = improves_somewhere (row_in table.ordinary second.from.0) (row_of_words table second) second.weight is in
         let v : ℤ = get_or (row_in table.ordinary second.from.0) k absent in
-        let t : ℤ = get_or (row_of table second) k absent in
-        let (here, below) = and_parts (int_lt v absent) (int_lt (int_max v (pos 0) +ℤ second.weight) t) falls in
+        let t : ℤ = get_or (row_of_words table second) k absent in
+        let (here, below) = and_parts (int_lt v absent) (int_lt (int_max v (pos 0) +ℤ second.weight) t) descends in
         let entry : Edge = record { from = record { 0 = k }; to = second.from; label = None; weight = v } in
         let inside : k < length net.points = omega (arith, within, firsts_count) in
         let entry_edge : IsEdge net entry = record { from_point = inside; to_point = is_second.is_edge.from_point; labelled = tt } in
@@ -324,53 +331,54 @@ module _ (net : Plan) (edges : List Edge) (sound : All (IsSoundEdge net) edges) 
         let same = key_same first entry key in
         let sound_first = sound_at first among in
         let number : first.from.0 ≡ k = ap (λ (p : PointId). p.0) same.from in
-        let word : get_or (row_of table second) first.from.0 absent ≡ t = ap (λ (n : ℕ). get_or (row_of table second) n absent) number in
-        let over : has_at_most table (joined first second) ≡ false = ap (λ (w : ℤ). int_le w (joined_weight first second)) word ∙ falls_over v first.weight second.weight t (le_is first.weight v weight) below in (
+        let word : get_or (row_of_words table second) first.from.0 absent ≡ t = ap (λ (n : ℕ). get_or (row_of_words table second) n absent) number in
+        let over : has_word_at_most table (joined first second) ≡ false = ap (λ (w : ℤ). int_le w (joined_weight first second)) word ∙ improves_over v first.weight second.weight t (le_is first.weight v weight) below in (
           first,
           record {
             among = among;
             ordinary = same.label;
             meeting = same.to;
-            lacking = unmet_is (joined first second) (joined_edge first sound_first.is_edge.from_point) (small_joined first.weight second.weight (within_at first sound_first) second_few) ∙ not_false_is (has_at_most table (joined first second)) over;
+            lacking = unsaturated_is (joined first second) (joined_edge first sound_first.is_edge.from_point) (small_joined first.weight second.weight (within_at first sound_first) second_few)
+                ∙ not_false_is (has_word_at_most table (joined first second)) over;
           },
         )
 
     abbrev by_no : Edge → Bool
-    by_no first = is_unmet edges (no_case first second)
+    by_no first = is_unsaturated edges (no_case first second)
 
     abbrev by_upper : Edge → Bool
-    by_upper first = is_unmet edges (upper_case first second)
+    by_upper first = is_unsaturated edges (upper_case first second)
 
-    -- with an ordinary edge before a negative one something does not stand just where the word of one falls
-    pub before_is : second.weight <ℤ pos 0 → words_fall ≡ is_open_before edges second
-    before_is below = both_ways words_fall (is_open_before edges second) there back
+    -- with an ordinary edge before a negative one something does not stand exactly if the word of one improves
+    pub before_is : second.weight <ℤ pos 0 → words_improve ≡ is_open_before edges second
+    before_is below = both_ways words_improve (is_open_before edges second) there back
       where
         gives : (first : Edge) → OpensWith first → (o : Option LinkId) → second.label ≡ o → (by_no first || by_upper first) ≡ true
         gives first with_first None label =
-            or_left (by_no first) (by_upper first) (given_unmet edges (no_case first second) (joined first second) (no_case_applies first second with_first.ordinary label with_first.meeting below) with_first.lacking)
+            or_left (by_no first) (by_upper first) (given_unsaturated edges (no_case first second) (joined first second) (no_case_applies first second with_first.ordinary label with_first.meeting below) with_first.lacking)
         gives first with_first (Some name) label =
-            or_right (by_no first) (by_upper first) (given_unmet edges (upper_case first second) (joined first second) (upper_case_applies first second name with_first.ordinary label with_first.meeting below) with_first.lacking)
+            or_right (by_no first) (by_upper first) (given_unsaturated edges (upper_case first second) (joined first second) (upper_case_applies first second name with_first.ordinary label with_first.meeting below) with_first.lacking)
 
-        there : words_fall ≡ true → is_open_before edges second ≡ true
+        there : words_improve ≡ true → is_open_before edges second ≡ true
         there is = let (first, with_first) = opening is in passes_some (λ f. by_no f || by_upper f) edges first with_first.among (gives first with_first second.label refl)
 
-        falls_no : (first : Edge) → Contains edges first → by_no first ≡ true → words_fall ≡ true
-        falls_no first among is =
-            let (edge, gave, lacking) = unmet_given edges (no_case first second) is in
+        improves_by_no_case : (first : Edge) → Contains edges first → by_no first ≡ true → words_improve ≡ true
+        improves_by_no_case first among is =
+            let (edge, gave, lacking) = unsaturated_given edges (no_case first second) is in
             let given = no_case_gives first second edge gave in
             let same : joined first second ≡ edge = ap (λ (l : Option LinkId). let e : Edge = record { from = first.from; to = second.to; label = l; weight = joined_weight first second } in e) given.second_ordinary ∙ given.is in
-            before_opens first among given.first_ordinary given.meeting (ap (unmet edges) same ∙ lacking)
+            before_opens first among given.first_ordinary given.meeting (ap (unsaturated edges) same ∙ lacking)
 
-        falls_upper : (first : Edge) → Contains edges first → by_upper first ≡ true → words_fall ≡ true
-        falls_upper first among is =
-            let (edge, gave, lacking) = unmet_given edges (upper_case first second) is in
+        improves_by_upper_case : (first : Edge) → Contains edges first → by_upper first ≡ true → words_improve ≡ true
+        improves_by_upper_case first among is =
+            let (edge, gave, lacking) = unsaturated_given edges (upper_case first second) is in
             let given = upper_case_gives first second edge gave in
-            before_opens first among given.first_ordinary given.meeting (ap (unmet edges) given.is ∙ lacking)
+            before_opens first among given.first_ordinary given.meeting (ap (unsaturated edges) given.is ∙ lacking)
 
-        back : is_open_before edges second ≡ true → words_fall ≡ true
+        back : is_open_before edges second ≡ true → words_improve ≡ true
         back is =
             let (first, among, passes) = some_passes (λ f. by_no f || by_upper f) edges is in
-            elim (or_cases (by_no first) (by_upper first) passes) [ inl plain ↦ falls_no first among plain | inr upper ↦ falls_upper first among upper ]
+            elim (or_cases (by_no first) (by_upper first) passes) [ inl plain ↦ improves_by_no_case first among plain | inr upper ↦ improves_by_upper_case first among upper ]
 
 -- ---- with the link that ends where the edge begins
 pub moved_small : (net : Plan) (second : Edge) → IsSoundEdge net second → (link : Link) → IsLink net link → IsSmallEdge net (moved_to_activation link second)
@@ -395,26 +403,27 @@ module _ (net : Plan) (plan : IsPlan net) (edges : List Edge) (second : Edge) (i
       })
 
   abbrev at_link : LinkId → Link → Bool
-  at_link name link = not (is_labelled_by name second) && unmet edges (moved_to_activation link second)
+  at_link name link = not (is_labelled_by name second) && unsaturated edges (moved_to_activation link second)
 
   abbrev after_by : Option LinkId → Bool
   after_by o = option_map_or (λ n. option_map_or (at_link n) (slice_get net.links n.0) false) o false
 
   abbrev by_lower : LinkId → Bool
-  by_lower name = is_unmet edges (lower_case net name second)
+  by_lower name = is_unsaturated edges (lower_case net name second)
 
   abbrev by_cross : LinkId → Bool
-  by_cross name = is_unmet edges (cross_case net name second)
+  by_cross name = is_unsaturated edges (cross_case net name second)
 
-  -- with a link before a negative edge something does not stand just where it does not with the link that ends where the edge begins
+  -- with a link before a negative edge something does not stand exactly if it does not with the link that ends where the edge begins
   pub after_is : second.weight <ℤ pos 0 → after_by (activation net second.from) ≡ is_open_after net edges second
   after_is below = both_ways (after_by (activation net second.from)) (is_open_after net edges second) there back
     where
-      gives : (name : LinkId) (link : Link) → IsLinkOf net name link → second.from ≡ link.to → is_labelled_by name second ≡ false → unmet edges (moved_to_activation link second) ≡ true → (o : Option LinkId) → second.label ≡ o → (by_lower name || by_cross name) ≡ true
+      gives : (name : LinkId) (link : Link) → IsLinkOf net name link → second.from ≡ link.to → is_labelled_by name second ≡ false → unsaturated edges (moved_to_activation link second) ≡ true → (o : Option LinkId) → second.label ≡ o
+          → (by_lower name || by_cross name) ≡ true
       gives name link declared begins another lacking None label =
-          or_left (by_lower name) (by_cross name) (given_unmet edges (lower_case net name second) (moved_to_activation link second) (lower_case_applies net name link second declared label begins below) lacking)
+          or_left (by_lower name) (by_cross name) (given_unsaturated edges (lower_case net name second) (moved_to_activation link second) (lower_case_applies net name link second declared label begins below) lacking)
       gives name link declared begins another lacking (Some own) label =
-          or_right (by_lower name) (by_cross name) (given_unmet edges (cross_case net name second) (moved_to_activation link second) (cross_case_applies net name link second own declared label another begins below) lacking)
+          or_right (by_lower name) (by_cross name) (given_unsaturated edges (cross_case net name second) (moved_to_activation link second) (cross_case_applies net name link second own declared label another begins below) lacking)
 
       there : after_by (activation net second.from) ≡ true → is_open_after net edges second ≡ true
       there is = by (activation net second.from) refl is
@@ -424,27 +433,27 @@ module _ (net : Plan) (plan : IsPlan net) (edges : List Edge) (second : Edge) (i
           by (Some name) found is =
               let (link, declared, begins) = link_there net second.from name found in
               let here : at_link name link ≡ true = sym (ap (λ o. option_map_or (at_link name) o false) declared) ∙ is in
-              let (other, lacking) = and_parts (not (is_labelled_by name second)) (unmet edges (moved_to_activation link second)) here in
+              let (other, lacking) = and_parts (not (is_labelled_by name second)) (unsaturated edges (moved_to_activation link second)) here in
               passes_some (λ n. by_lower n || by_cross n) (link_ids net) name (link_among net name link declared) (gives name link declared begins (not_true_is (is_labelled_by name second) other) lacking second.label refl)
 
-      opens_at : (name : LinkId) (link : Link) → IsLinkOf net name link → second.from ≡ link.to → is_labelled_by name second ≡ false → unmet edges (moved_to_activation link second) ≡ true → after_by (activation net second.from) ≡ true
+      opens_at : (name : LinkId) (link : Link) → IsLinkOf net name link → second.from ≡ link.to → is_labelled_by name second ≡ false → unsaturated edges (moved_to_activation link second) ≡ true → after_by (activation net second.from) ≡ true
       opens_at name link declared begins another lacking =
           let found : activation net second.from ≡ Some name = link_ends net plan name link second.from declared begins in
           ap after_by found
           ∙ ap (λ o. option_map_or (at_link name) o false) declared
-          ∙ both_true (not (is_labelled_by name second)) (unmet edges (moved_to_activation link second)) (not_false_is (is_labelled_by name second) another) lacking
+          ∙ both_true (not (is_labelled_by name second)) (unsaturated edges (moved_to_activation link second)) (not_false_is (is_labelled_by name second) another) lacking
 
       opens_lower : (name : LinkId) → by_lower name ≡ true → after_by (activation net second.from) ≡ true
       opens_lower name is =
-          let (edge, gave, lacking) = unmet_given edges (lower_case net name second) is in
+          let (edge, gave, lacking) = unsaturated_given edges (lower_case net name second) is in
           let given = lower_case_gives net name second edge gave in
-          opens_at name given.link given.declared given.begins (no_label name second given.second_ordinary) (ap (unmet edges) given.is ∙ lacking)
+          opens_at name given.link given.declared given.begins (no_label name second given.second_ordinary) (ap (unsaturated edges) given.is ∙ lacking)
 
       opens_cross : (name : LinkId) → by_cross name ≡ true → after_by (activation net second.from) ≡ true
       opens_cross name is =
-          let (edge, gave, lacking) = unmet_given edges (cross_case net name second) is in
+          let (edge, gave, lacking) = unsaturated_given edges (cross_case net name second) is in
           let given = cross_case_gives net name second edge gave in
-          opens_at name given.link given.declared given.begins (other_label name given.label second given.second_labelled given.another) (ap (unmet edges) given.is ∙ lacking)
+          opens_at name given.link given.declared given.begins (other_label name given.label second given.second_labelled given.another) (ap (unsaturated edges) given.is ∙ lacking)
 
       back : is_open_after net edges second ≡ true → after_by (activation net second.from) ≡ true
       back is =
@@ -477,38 +486,40 @@ any_none f (x ∷ xs) none = ap (λ (b : Bool). b || list_any f xs) (none x) ∙
 
 module _ (net : Plan) (edges : List Edge) (second : Edge) where
   abbrev of_rule : {A : Type 0} → (A → Option Edge) → List A → Bool
-  of_rule give xs = list_any (unmet edges) (filter_map give xs)
+  of_rule give xs = list_any (unsaturated edges) (filter_map give xs)
 
-  by_parts : is_open net edges second ≡ (of_rule (λ first. no_case first second) edges || (of_rule (λ first. upper_case first second) edges || (of_rule (λ name. lower_case net name second) (link_ids net) || (of_rule (λ name. cross_case net name second) (link_ids net) || of_rule (removal net) (second ∷ [])))))
+  by_parts : has_open_conclusion net edges second ≡ (of_rule (λ first. no_case first second) edges || (of_rule (λ first. upper_case first second) edges ||
+      (of_rule (λ name. lower_case net name second) (link_ids net) || (of_rule (λ name. cross_case net name second) (link_ids net) || of_rule (removal net) (second ∷ [])))))
   by_parts =
       let a : List Edge = filter_map (λ first. no_case first second) edges in
       let b : List Edge = filter_map (λ first. upper_case first second) edges in
       let c : List Edge = filter_map (λ name. lower_case net name second) (link_ids net) in
       let d : List Edge = filter_map (λ name. cross_case net name second) (link_ids net) in
       let e : List Edge = filter_map (removal net) (second ∷ []) in
-      list_any-append (unmet edges) a (b ++ (c ++ (d ++ e)))
-      ∙ ap (λ x. list_any (unmet edges) a || x) (list_any-append (unmet edges) b (c ++ (d ++ e)) ∙ ap (λ x. list_any (unmet edges) b || x) (list_any-append (unmet edges) c (d ++ e) ∙ ap (λ x. list_any (unmet edges) c || x) (list_any-append (unmet edges) d e)))
+      list_any-append (unsaturated edges) a (b ++ (c ++ (d ++ e)))
+      ∙ ap (λ x. list_any (unsaturated edges) a || x) (list_any-append (unsaturated edges) b (c ++ (d ++ e))
+      ∙ ap (λ x. list_any (unsaturated edges) b || x) (list_any-append (unsaturated edges) c (d ++ e) ∙ ap (λ x. list_any (unsaturated edges) c || x) (list_any-append (unsaturated edges) d e)))
 
   before_parts : is_open_before edges second ≡ (of_rule (λ first. no_case first second) edges || of_rule (λ first. upper_case first second) edges)
   before_parts =
-      any_or (λ first. is_unmet edges (no_case first second)) (λ first. is_unmet edges (upper_case first second)) edges
-      ∙ (ap (λ (b : Bool). b || list_any (λ first. is_unmet edges (upper_case first second)) edges) (sym (any_given (unmet edges) (λ first. no_case first second) edges))
-      ∙ ap (λ (b : Bool). of_rule (λ first. no_case first second) edges || b) (sym (any_given (unmet edges) (λ first. upper_case first second) edges)))
+      any_or (λ first. is_unsaturated edges (no_case first second)) (λ first. is_unsaturated edges (upper_case first second)) edges
+      ∙ (ap (λ (b : Bool). b || list_any (λ first. is_unsaturated edges (upper_case first second)) edges) (sym (any_given (unsaturated edges) (λ first. no_case first second) edges))
+      ∙ ap (λ (b : Bool). of_rule (λ first. no_case first second) edges || b) (sym (any_given (unsaturated edges) (λ first. upper_case first second) edges)))
 
   after_parts : is_open_after net edges second ≡ (of_rule (λ name. lower_case net name second) (link_ids net) || of_rule (λ name. cross_case net name second) (link_ids net))
   after_parts =
-      any_or (λ name. is_unmet edges (lower_case net name second)) (λ name. is_unmet edges (cross_case net name second)) (link_ids net)
-      ∙ (ap (λ (b : Bool). b || list_any (λ name. is_unmet edges (cross_case net name second)) (link_ids net)) (sym (any_given (unmet edges) (λ name. lower_case net name second) (link_ids net)))
-      ∙ ap (λ (b : Bool). of_rule (λ name. lower_case net name second) (link_ids net) || b) (sym (any_given (unmet edges) (λ name. cross_case net name second) (link_ids net))))
+      any_or (λ name. is_unsaturated edges (lower_case net name second)) (λ name. is_unsaturated edges (cross_case net name second)) (link_ids net)
+      ∙ (ap (λ (b : Bool). b || list_any (λ name. is_unsaturated edges (cross_case net name second)) (link_ids net)) (sym (any_given (unsaturated edges) (λ name. lower_case net name second) (link_ids net)))
+      ∙ ap (λ (b : Bool). of_rule (λ name. lower_case net name second) (link_ids net) || b) (sym (any_given (unsaturated edges) (λ name. cross_case net name second) (link_ids net))))
 
-  removal_part : of_rule (removal net) (second ∷ []) ≡ is_unmet edges (removal net second)
-  removal_part = any_given (unmet edges) (removal net) (second ∷ []) ∙ or-false (is_unmet edges (removal net second))
+  removal_part : of_rule (removal net) (second ∷ []) ≡ is_unsaturated edges (removal net second)
+  removal_part = any_given (unsaturated edges) (removal net) (second ∷ []) ∙ or-false (is_unsaturated edges (removal net second))
 
   -- an edge that is not negative gives nothing but by removal
   nothing_before : is_negative second ≡ false → is_open_before edges second ≡ false
   nothing_before not_negative =
-      any_none (λ first. is_unmet edges (no_case first second) || is_unmet edges (upper_case first second)) edges (λ first.
-      ap (λ (b : Bool). b || is_unmet edges (upper_case first second)) (none_given edges (no_case first second) (λ edge gave. over ((no_case_gives first second edge gave).negative)))
+      any_none (λ first. is_unsaturated edges (no_case first second) || is_unsaturated edges (upper_case first second)) edges (λ first.
+      ap (λ (b : Bool). b || is_unsaturated edges (upper_case first second)) (none_given edges (no_case first second) (λ edge gave. over ((no_case_gives first second edge gave).negative)))
       ∙ none_given edges (upper_case first second) (λ edge gave. over ((upper_case_gives first second edge gave).negative)))
     where
       over : second.weight <ℤ pos 0 → ⊥
@@ -516,8 +527,8 @@ module _ (net : Plan) (edges : List Edge) (second : Edge) where
 
   nothing_after : is_negative second ≡ false → is_open_after net edges second ≡ false
   nothing_after not_negative =
-      any_none (λ name. is_unmet edges (lower_case net name second) || is_unmet edges (cross_case net name second)) (link_ids net) (λ name.
-      ap (λ (b : Bool). b || is_unmet edges (cross_case net name second)) (none_given edges (lower_case net name second) (λ edge gave. over ((lower_case_gives net name second edge gave).negative)))
+      any_none (λ name. is_unsaturated edges (lower_case net name second) || is_unsaturated edges (cross_case net name second)) (link_ids net) (λ name.
+      ap (λ (b : Bool). b || is_unsaturated edges (cross_case net name second)) (none_given edges (lower_case net name second) (λ edge gave. over ((lower_case_gives net name second edge gave).negative)))
       ∙ none_given edges (cross_case net name second) (λ edge gave. over ((cross_case_gives net name second edge gave).negative)))
     where
       over : second.weight <ℤ pos 0 → ⊥
@@ -535,8 +546,8 @@ module _ (net : Plan) (edges : List Edge) (second : Edge) where
   abbrev cross : Bool
   cross = of_rule (λ name. cross_case net name second) (link_ids net)
 
-  -- something does not stand just where something by removal does not, or, with a negative edge, something by another rule
-  pub open_is : (is_unmet edges (removal net second) || (is_negative second && (is_open_before edges second || is_open_after net edges second))) ≡ is_open net edges second
+  -- something does not stand exactly if something by removal does not, or, with a negative edge, something by another rule
+  pub open_is : (is_unsaturated edges (removal net second) || (is_negative second && (is_open_before edges second || is_open_after net edges second))) ≡ has_open_conclusion net edges second
   open_is = by (is_negative second) refl ∙ sym by_parts
     where
       turned : (a b c d e : Bool) → (e || ((a || b) || (c || d))) ≡ (a || (b || (c || (d || e))))
@@ -551,29 +562,30 @@ module _ (net : Plan) (edges : List Edge) (second : Edge) where
       turned false false false false true = refl
       turned false false false false false = refl
 
-      all : (is_unmet edges (removal net second) || (is_open_before edges second || is_open_after net edges second)) ≡ (plain || (upper || (lower || (cross || of_rule (removal net) (second ∷ [])))))
+      all : (is_unsaturated edges (removal net second) || (is_open_before edges second || is_open_after net edges second)) ≡ (plain || (upper || (lower || (cross || of_rule (removal net) (second ∷ [])))))
       all =
           ap (λ (b : Bool). b || (is_open_before edges second || is_open_after net edges second)) (sym removal_part)
           ∙ (ap (λ (b : Bool). of_rule (removal net) (second ∷ []) || (b || is_open_after net edges second)) before_parts
           ∙ (ap (λ (b : Bool). of_rule (removal net) (second ∷ []) || ((plain || upper) || b)) after_parts
           ∙ turned plain upper lower cross (of_rule (removal net) (second ∷ []))))
 
-      by : (b : Bool) → is_negative second ≡ b → (is_unmet edges (removal net second) || (is_negative second && (is_open_before edges second || is_open_after net edges second))) ≡ (plain || (upper || (lower || (cross || of_rule (removal net) (second ∷ [])))))
-      by true is = ap (λ (b : Bool). is_unmet edges (removal net second) || (b && (is_open_before edges second || is_open_after net edges second))) is ∙ all
+      by : (b : Bool) → is_negative second ≡ b → (is_unsaturated edges (removal net second) || (is_negative second && (is_open_before edges second || is_open_after net edges second))) ≡
+          (plain || (upper || (lower || (cross || of_rule (removal net) (second ∷ [])))))
+      by true is = ap (λ (b : Bool). is_unsaturated edges (removal net second) || (b && (is_open_before edges second || is_open_after net edges second))) is ∙ all
       by false is =
-          ap (λ (b : Bool). is_unmet edges (removal net second) || (b && (is_open_before edges second || is_open_after net edges second))) is
-          ∙ (ap (λ (b : Bool). is_unmet edges (removal net second) || b) (sym (ap (λ (b : Bool). b || is_open_after net edges second) (nothing_before is) ∙ nothing_after is))
+          ap (λ (b : Bool). is_unsaturated edges (removal net second) || (b && (is_open_before edges second || is_open_after net edges second))) is
+          ∙ (ap (λ (b : Bool). is_unsaturated edges (removal net second) || b) (sym (ap (λ (b : Bool). b || is_open_after net edges second) (nothing_before is) ∙ nothing_after is))
           ∙ all)
 
-  pub opens_by_removal : is_unmet edges (removal net second) ≡ true → true ≡ is_open net edges second
+  pub opens_by_removal : is_unsaturated edges (removal net second) ≡ true → true ≡ has_open_conclusion net edges second
   opens_by_removal is = sym (ap (λ (b : Bool). b || (is_negative second && (is_open_before edges second || is_open_after net edges second))) is) ∙ open_is
 
-  pub opens_negative : is_unmet edges (removal net second) ≡ false → is_negative second ≡ true → (is_open_before edges second || is_open_after net edges second) ≡ is_open net edges second
+  pub opens_negative : is_unsaturated edges (removal net second) ≡ false → is_negative second ≡ true → (is_open_before edges second || is_open_after net edges second) ≡ has_open_conclusion net edges second
   opens_negative none negative =
       sym (ap (λ (b : Bool). b || (is_negative second && (is_open_before edges second || is_open_after net edges second))) none ∙ ap (λ (b : Bool). b && (is_open_before edges second || is_open_after net edges second)) negative)
       ∙ open_is
 
-  pub opens_nothing : is_unmet edges (removal net second) ≡ false → is_negative second ≡ false → false ≡ is_open net edges second
+  pub opens_nothing : is_unsaturated edges (removal net second) ≡ false → is_negative second ≡ false → false ≡ has_open_conclusion net edges second
   opens_nothing none not_negative =
       sym (ap (λ (b : Bool). b || (is_negative second && (is_open_before edges second || is_open_after net edges second))) none ∙ ap (λ (b : Bool). b && (is_open_before edges second || is_open_after net edges second)) not_negative)
       ∙ open_is

@@ -12,17 +12,18 @@ use Rattle.cert_format.specs.declared.line.CertLine.{CertLine}
 use Rattle.cert_format.specs.declared.kind.LineKind.{LineKind}
 use Rattle.cert_format.specs.declared.kind.LineKind.TheVariants as kind
 use Rattle.cert_format.specs.JudgementForms.{◌>>=◌, unless, there}
-use Rattle.cert_checker.specs.Lines.{line_at, link_named, bound_of, label_of, has_label_of, has_ends_of, are_ordinary, takes_label, is_negative, may_cross, goes, joins, reaches_back, names_known, in_range, at_least, bound_passes, link_passes, sum_passes, no_passes, up_passes, back_passes, low_passes, cross_passes, drop_passes, rule_passes, line_passes}
+use Rattle.cert_checker.specs.Lines.{line_at, link_named, bound_of, label_of, has_label_of, has_ends_of, are_ordinary, takes_label, is_negative, may_cross, goes, joins, reaches_back, names_known, in_range, at_least, bound_passes}
+use Rattle.cert_checker.specs.Lines.{link_passes, sum_passes, no_passes, up_passes, back_passes, low_passes, cross_passes, drop_passes, rule_passes, line_passes}
 use Rattle.cert_checker.specs.Walk.{WalkPasses, refusal, steps_known, returns_to, is_negative_walk, total_weight, walked, walk_passes}
 use Rattle.cert_checker.specs.Judgement.{lines_pass, refutation_passes, judged}
 use Rattle.cert_checker.specs.Refusals.{FaultSays, IsRefusedLine, WalkSays, IsRefusedWalk}
 use Rattle.cert_checker.specs.Laws.{RefusalsAreOfOneLine}
 use Rattle.cert_checker.specs.declared.judgement.CertFault.{CertFault}
 use Rattle.cert_checker.specs.declared.judgement.CertFault.TheVariants.{UnknownItem, Premise, RuleCondition, Ends, Label, TooLow, WalkBroken, WalkNotNegative, WeightRange}
-use Rattle.cert_checker.specs.declared.judgement.Refusal.{Refusal}
+use Rattle.cert_checker.specs.declared.judgement.RefusedLine.{RefusedLine}
 use Rattle.cert_checker.specs.declared.judgement.Judgement.TheVariants.{Refused}
 use Rattle.cert_checker.specs.declared.judgement.Claim.TheVariants.{NotControllable}
-use Rattle.cert_checker.proofs.Stopping.{stop_is}
+use Rattle.cert_checker.proofs.RefusedLines.{stop_is}
 
 -- one test after another: the first that fails says so, or a later one
 after_test : {A B E : Type 0} (says : E → Type 0) (first : Result A E) (next : A → Result B E) (why : E) → ((w : E) → first ≡ Err w → says w) → ((x : A) → next x ≡ Err why → says why) → (first >>= next) ≡ Err why → says why
@@ -136,7 +137,7 @@ module _ (net : Plan) (earlier : List CertLine) (line : CertLine) (why : CertFau
       test (unless (in_range line.weight) WeightRange) _ (unless_says says (in_range line.weight) WeightRange (λ beyond. leb-false (unsigned_abs line.weight) most_weight beyond)) (λ weight fails.
       rule_says line.kind fails) fails) fails
 
-refused_line : (net : Plan) (lines : List CertLine) (refused : Refusal) → lines_pass net [] lines ≡ Err refused → IsRefusedLine net lines refused.line refused.why
+refused_line : (net : Plan) (lines : List CertLine) (refused : RefusedLine) → lines_pass net [] lines ≡ Err refused → IsRefusedLine net lines refused.line refused.why
 refused_line net lines refused stops =
     let s = stop_is net [] lines refused stops in
     let count : s.count ≡ refused.line - 1 = omega (arith, s.place) in
@@ -149,35 +150,37 @@ refused_line net lines refused stops =
     }
 
 module _ (lines : List CertLine) (walk : List ℕ) where
-  abbrev walk_says : Refusal → Type 0
+  abbrev walk_says : RefusedLine → Type 0
   walk_says refused = WalkSays lines walk refused.why
 
-  steps_say : (place : ℕ) (steps : List ℕ) (refused : Refusal) → steps_known lines place steps ≡ Err refused → walk_says refused
+  steps_say : (place : ℕ) (steps : List ℕ) (refused : RefusedLine) → steps_known lines place steps ≡ Err refused → walk_says refused
   steps_say place [] refused fails = absurd (cc)
   steps_say place (step ∷ steps) refused fails =
       after_test walk_says (there (line_at lines step) (refusal place Premise)) _ refused (there_says walk_says (line_at lines step) (refusal place Premise) tt) (λ line fails. steps_say (place + 1) steps refused fails) fails
 
-  returns_say : (begin : List ℕ) (place : ℕ) (last : CertLine) (steps : List CertLine) (refused : Refusal) → returns_to begin place last steps ≡ Err refused → walk_says refused
+  returns_say : (begin : List ℕ) (place : ℕ) (last : CertLine) (steps : List CertLine) (refused : RefusedLine) → returns_to begin place last steps ≡ Err refused → walk_says refused
   returns_say begin place last [] refused fails = unless_says walk_says (bytes_eq last.to begin) (refusal place WalkBroken) (λ no. tt) refused fails
   returns_say begin place last (next ∷ steps) refused fails =
-      after_test walk_says (unless (bytes_eq next.from last.to) (refusal (place + 1) WalkBroken)) _ refused (unless_says walk_says (bytes_eq next.from last.to) (refusal (place + 1) WalkBroken) (λ no. tt)) (λ meet fails. returns_say begin (place + 1) next steps refused fails) fails
+      after_test walk_says (unless (bytes_eq next.from last.to) (refusal (place + 1) WalkBroken)) _ refused (unless_says walk_says (bytes_eq next.from last.to) (refusal (place + 1) WalkBroken) (λ no. tt))
+      (λ meet fails. returns_say begin (place + 1) next steps refused fails) fails
 
   not_negative : (total : ℤ) → int_lt total (pos 0) ≡ false → pos 0 ≤ℤ total
   not_negative total over = grind (arith, ints)
 
-  closed_say : (place : ℕ) (steps : List CertLine) (refused : Refusal) → walked lines walk ≡ steps → is_negative_walk place steps ≡ Err refused → walk_says refused
+  closed_say : (place : ℕ) (steps : List CertLine) (refused : RefusedLine) → walked lines walk ≡ steps → is_negative_walk place steps ≡ Err refused → walk_says refused
   closed_say place [] refused is fails = let same : refusal place WalkBroken ≡ refused = cc in subst walk_says same tt
   closed_say place (line ∷ steps) refused is fails =
       let total = total_weight (line ∷ steps) in
       after_test walk_says (returns_to line.from place line steps) _ refused (λ w fails. returns_say line.from place line steps w fails) (λ closed fails.
       unless_says walk_says (int_lt total (pos 0)) (refusal (place + length steps) (WalkNotNegative total)) (λ over. (ap total_weight (sym is), not_negative total over)) refused fails) fails
 
-  walk_is_said : (refused : Refusal) → walk_passes lines walk ≡ Err refused → walk_says refused
+  walk_is_said : (refused : RefusedLine) → walk_passes lines walk ≡ Err refused → walk_says refused
   unfolding walk_passes
   walk_is_said refused fails =
       after_test walk_says (steps_known lines (length lines + 1) walk) _ refused (λ w fails. steps_say (length lines + 1) walk w fails) (λ known fails. closed_say (length lines + 1) (walked lines walk) refused refl fails) fails
 
-refused_by : (net : Plan) (lines : List CertLine) (walk : List ℕ) (refused : Refusal) (rules : WalkPasses) → lines_pass net [] lines ≡ rules → (rules >>= (λ _. walk_passes lines walk)) ≡ Err refused → IsRefusedLine net lines refused.line refused.why ⊎ IsRefusedWalk net lines walk refused.line refused.why
+refused_by : (net : Plan) (lines : List CertLine) (walk : List ℕ) (refused : RefusedLine) (rules : WalkPasses) → lines_pass net [] lines ≡ rules → (rules >>= (λ _. walk_passes lines walk)) ≡ Err refused
+    → IsRefusedLine net lines refused.line refused.why ⊎ IsRefusedWalk net lines walk refused.line refused.why
 refused_by net lines walk refused (Ok passed) is fails = inr (record { before = is; own = fails; says = walk_is_said lines walk refused fails })
 refused_by net lines walk refused (Err first) is fails = inl (refused_line net lines refused (is ∙ fails))
 
@@ -188,7 +191,8 @@ refused_is (Err r) number why refused =
     let cause : r.why ≡ why = cc in
     ap (λ n. Err (refusal n r.why)) line ∙ ap (λ w. Err (refusal number w)) cause
 
-refutation_refused : (net : Plan) (lines : List CertLine) (walk : List ℕ) (refused : Refusal) → refutation_passes net lines walk ≡ Err refused → IsRefusedLine net lines refused.line refused.why ⊎ IsRefusedWalk net lines walk refused.line refused.why
+refutation_refused : (net : Plan) (lines : List CertLine) (walk : List ℕ) (refused : RefusedLine) → refutation_passes net lines walk ≡ Err refused
+    → IsRefusedLine net lines refused.line refused.why ⊎ IsRefusedWalk net lines walk refused.line refused.why
 unfolding refutation_passes
 refutation_refused net lines walk refused fails = refused_by net lines walk refused (lines_pass net [] lines) refl fails
 

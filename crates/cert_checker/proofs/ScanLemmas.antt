@@ -1,4 +1,4 @@
--- The scans over a table: what each finds by look-ups is what its definition asks for.
+-- The scans over a table: what each finds by look-ups is what its definition requires.
 use Rattle.std.proofs.Common.{◌≡◌, ℕ, ◌+◌, ◌<◌, ◌≤◌, ℤ, pos, ◌<ℤ◌, ◌-ℤ◌, true, List, [], ◌∷◌, ◌++◌, length, get_or, map, drop, Some, suc, refl, sym, ap, ◌∙◌, subst, arith, unsigned_abs, append_assoc}
 use Rattle.std.specs.Prelude.{slice_get}
 use Rattle.std.specs.List.{All, AllByRecursion, enumerate_from}
@@ -13,8 +13,8 @@ use Rattle.net_model.specs.declared.part.Edge.{Edge}
 use Rattle.net_model.specs.declared.part.Link.{Link}
 use Rattle.cert_checker.specs.Tables.{base_of_bound, base_of_link, base_of, stands_among}
 use Rattle.cert_checker.specs.Sound.{IsSoundEdge, AreSound}
-use Rattle.cert_checker.specs.Least.{absent, Weights, IsSmallEdge, IsTableOf, falls_in, has_at_most, least_of, row_in, row_of}
-use Rattle.cert_checker.specs.Opening.{is_open_before}
+use Rattle.cert_checker.specs.Least.{absent, Weights, IsSmallEdge, IsLeastTable, improves_in, has_word_at_most, least_of, row_in, row_of_words}
+use Rattle.cert_checker.specs.OpenEntries.{is_open_before}
 use Rattle.cert_checker.specs.declared.base.Base.{Base}
 use Rattle.cert_checker.proofs.OpenLemmas.{IsLeast, is_least}
 use Rattle.cert_checker.proofs.OpensLemmas.{before_is}
@@ -23,11 +23,12 @@ use Rattle.cert_checker.proofs.OpensLemmas.{before_is}
 least_is : (net : Plan) (edges : List Edge) (table : Weights) → AreSound net edges → table ≡ least_of net edges → IsLeast net edges table
 least_is net edges table sound is = subst (IsLeast net edges) (sym is) (is_least net edges sound)
 
--- an edge stands among the entries just where its key has at most its weight
-pub stands_is : (net : Plan) (first : ℕ) (edges : List Edge) (table : Weights) → IsTableOf net first edges table → (edge : Edge) → IsSmallEdge net edge → has_at_most table edge ≡ stands_among edges edge
+-- an edge stands among the entries exactly if its key has at most its weight
+pub stands_is : (net : Plan) (first : ℕ) (edges : List Edge) (table : Weights) → IsLeastTable net first edges table → (edge : Edge) → IsSmallEdge net edge → has_word_at_most table edge ≡ stands_among edges edge
 stands_is net first edges table is edge small = least_is net edges table is.sound is.least edge small.is_edge small.small
 
-pub before_end : (net : Plan) (first : ℕ) (edges : List Edge) (table : Weights) → IsTableOf net first edges table → (second : Edge) → IsSoundEdge net second → second.weight <ℤ pos 0 → falls_in (row_in table.ordinary second.from.0) (row_of table second) second.weight ≡ is_open_before edges second
+pub before_end : (net : Plan) (first : ℕ) (edges : List Edge) (table : Weights) → IsLeastTable net first edges table → (second : Edge) → IsSoundEdge net second → second.weight <ℤ pos 0
+    → improves_in (row_in table.ordinary second.from.0) (row_of_words table second) second.weight ≡ is_open_before edges second
 before_end net first edges table is second is_second below = before_is net edges is.sound table is.shape (least_is net edges table is.sound is.least) second is_second below
 
 -- ---- the base
@@ -60,7 +61,8 @@ bounds_base : (net : Plan) (bounds : List Bound) (rest : List Base) → AllByRec
 bounds_base net [] rest sound others = others
 bounds_base net (bound ∷ bounds) rest sound others = (bound_sound net bound sound.0, bounds_base net bounds rest sound.1 others)
 
-links_base : (net : Plan) (start : ℕ) (links : List Link) → ((k : ℕ) (link : Link) → slice_get links k ≡ Some link → slice_get net.links (start + k) ≡ Some link) → AllByRecursion (IsLink net) links → AllByRecursion (IsSmallBase net) (map (base_of_link net) (enumerate_from start links))
+links_base : (net : Plan) (start : ℕ) (links : List Link) → ((k : ℕ) (link : Link) → slice_get links k ≡ Some link → slice_get net.links (start + k) ≡ Some link) → AllByRecursion (IsLink net) links
+    → AllByRecursion (IsSmallBase net) (map (base_of_link net) (enumerate_from start links))
 links_base net start [] there sound = tt
 links_base net start (link ∷ links) there sound =
     let here : slice_get net.links start ≡ Some link = ap (slice_get net.links) (no_more start) ∙ there 0 link refl in
@@ -74,7 +76,8 @@ links_base net start (link ∷ links) there sound =
 
 base_sound : (net : Plan) (plan : IsPlan net) → AllByRecursion (IsSmallBase net) (base_of net)
 base_sound net plan =
-    bounds_base net net.bounds (map (base_of_link net) (enumerate_from 0 net.links)) (recursion_from_All (IsBound net) net.bounds plan.bounds_sound) (links_base net 0 net.links (λ k link at. ap (slice_get net.links) (from_zero k) ∙ at) (recursion_from_All (IsLink net) net.links plan.links_sound))
+    bounds_base net net.bounds (map (base_of_link net) (enumerate_from 0 net.links)) (recursion_from_All (IsBound net) net.bounds plan.bounds_sound)
+    (links_base net 0 net.links (λ k link at. ap (slice_get net.links) (from_zero k) ∙ at) (recursion_from_All (IsLink net) net.links plan.links_sound))
   where
     from_zero : (k : ℕ) → 0 + k ≡ k
     from_zero k = omega arith
@@ -83,8 +86,9 @@ pub base_small : (net : Plan) (plan : IsPlan net) → All (IsSmallBase net) (bas
 base_small net plan = All-from_recursion (IsSmallBase net) (base_of net) (base_sound net plan)
 
 -- one link more of the base
-pub link_pushed : (net : Plan) (front : List Base) (i : ℕ) (link d : Link) → i < length net.links → link ≡ get_or net.links i d → (front ++ base_of_link net (i, link) ∷ []) ++ map (base_of_link net) (enumerate_from (i + 1) (drop (i + 1) net.links)) ≡ front ++ map (base_of_link net) (enumerate_from i (drop i net.links))
-link_pushed net front i link d within same =
-    append_assoc front (base_of_link net (i, link) ∷ []) (map (base_of_link net) (enumerate_from (i + 1) (drop (i + 1) net.links)))
-    ∙ ap (λ (l : Link). front ++ base_of_link net (i, l) ∷ map (base_of_link net) (enumerate_from (i + 1) (drop (i + 1) net.links))) same
-    ∙ ap (λ (ls : List Link). front ++ map (base_of_link net) (enumerate_from i ls)) (sym (drop_more net.links i d within))
+pub link_pushed : (net : Plan) (prefix : List Base) (i : ℕ) (link d : Link) → i < length net.links → link ≡ get_or net.links i d
+    → (prefix ++ base_of_link net (i, link) ∷ []) ++ map (base_of_link net) (enumerate_from (i + 1) (drop (i + 1) net.links)) ≡ prefix ++ map (base_of_link net) (enumerate_from i (drop i net.links))
+link_pushed net prefix i link d within same =
+    append_assoc prefix (base_of_link net (i, link) ∷ []) (map (base_of_link net) (enumerate_from (i + 1) (drop (i + 1) net.links)))
+    ∙ ap (λ (l : Link). prefix ++ base_of_link net (i, l) ∷ map (base_of_link net) (enumerate_from (i + 1) (drop (i + 1) net.links))) same
+    ∙ ap (λ (ls : List Link). prefix ++ map (base_of_link net) (enumerate_from i ls)) (sym (drop_more net.links i d within))

@@ -7,7 +7,7 @@ use Rattle.std.proofs.lemmas.List.{at_drop_more}
 use Rattle.cert_format.specs.declared.line.CertLine.{CertLine}
 use Rattle.cert_format.specs.JudgementForms.{there, ◌>>=◌}
 use Rattle.cert_checker.specs.Lines.{line_at}
-use Rattle.cert_checker.specs.Walk.{WalkPasses, refusal, steps_known, returns_to, is_negative_total, is_negative_walk, total_weight, walked, weight_at}
+use Rattle.cert_checker.specs.Walk.{WalkPasses, refusal, steps_known, returns_to, is_negative_total, is_negative_walk, total_weight, walked, weight_of_line}
 use Rattle.cert_checker.specs.declared.judgement.CertFault.TheVariants.{Premise}
 
 total_cons : (o : Option CertLine) (rest : List CertLine) → total_weight (cons_option o rest) ≡ option_map_or (λ (line : CertLine). line.weight) o (pos 0) +ℤ total_weight rest
@@ -15,7 +15,7 @@ total_cons None rest = omega (arith, ints)
 total_cons (Some line) rest = refl
 
 -- one step more of the total of a walk
-pub total_step : (lines : List CertLine) (walk : List ℕ) (i d : ℕ) → i < length walk → total_weight (walked lines (drop i walk)) ≡ weight_at lines (get_or walk i d) +ℤ total_weight (walked lines (drop (i + 1) walk))
+pub total_step : (lines : List CertLine) (walk : List ℕ) (i d : ℕ) → i < length walk → total_weight (walked lines (drop i walk)) ≡ weight_of_line lines (get_or walk i d) +ℤ total_weight (walked lines (drop (i + 1) walk))
 total_step lines walk i d within =
     at_drop_more (λ steps. total_weight (walked lines steps)) walk i d within ∙ total_cons (line_at lines (get_or walk i d)) (walked lines (drop (i + 1) walk))
 
@@ -41,10 +41,12 @@ length_walked lines place (step ∷ steps) known =
     omega (arith, here, rest)
 
 -- what is left to try of a walk whose steps meet
-pub closed_walk : (place from : ℕ) (lines : List CertLine) (walk : List ℕ) (step : ℕ) (steps : List ℕ) (line : CertLine) → walk ≡ step ∷ steps → line_at lines step ≡ Some line → returns_to line.from place line (walked lines steps) ≡ Ok tt → steps_known lines from walk ≡ Ok tt → is_negative_walk place (walked lines walk) ≡ is_negative_total (place + length steps) (total_weight (walked lines walk))
+pub closed_walk : (place from : ℕ) (lines : List CertLine) (walk : List ℕ) (step : ℕ) (steps : List ℕ) (line : CertLine) → walk ≡ step ∷ steps → line_at lines step ≡ Some line → returns_to line.from place line (walked lines steps) ≡ Ok tt
+    → steps_known lines from walk ≡ Ok tt → is_negative_walk place (walked lines walk) ≡ is_negative_total (place + length steps) (total_weight (walked lines walk))
 closed_walk place from lines walk step steps line is here returns known =
     let first = ap (walked lines) is ∙ walked_first lines step steps line here in
     let later = first_known lines from step steps (ap (steps_known lines from) (sym is) ∙ known) in
     let count = length_walked lines (from + 1) steps later.2 in
     let total = total_weight (walked lines walk) in
-    ap (is_negative_walk place) first ∙ ap (λ (passes : WalkPasses). passes >>= (λ _. is_negative_total (place + length (walked lines steps)) (total_weight (line ∷ walked lines steps)))) returns ∙ ap (λ n. is_negative_total (place + n) (total_weight (line ∷ walked lines steps))) count ∙ ap (λ w. is_negative_total (place + length steps) (total_weight w)) (sym first)
+    ap (is_negative_walk place) first ∙ ap (λ (passes : WalkPasses). passes >>= (λ _. is_negative_total (place + length (walked lines steps)) (total_weight (line ∷ walked lines steps)))) returns
+    ∙ ap (λ n. is_negative_total (place + n) (total_weight (line ∷ walked lines steps))) count ∙ ap (λ w. is_negative_total (place + length steps) (total_weight w)) (sym first)

@@ -31,7 +31,8 @@ use Rattle.cert_format.specs.declared.entry.Entry.{Entry}
 use Rattle.cert_format.specs.JudgementForms.{unless, there}
 use Rattle.cert_checker.specs.Lines.{in_range}
 use Rattle.cert_checker.specs.Walk.{WalkPasses, refusal}
-use Rattle.cert_checker.specs.Tables.{ordinary_of, labelled_of, edge_by, edge_of_entry, point_passes, entry_passes, at_line, read_each, same_label_id, same_key, stands_among, refused_at, none_refused, base_of_bound, base_of_link, base_of, is_missing, none_missing, base_stands, stand_once, is_complete, place_in, comes_before, rises, order_passes, link_ids, is_open, table_passes}
+use Rattle.cert_checker.specs.Tables.{ordinary_of, labelled_of, edge_by, edge_of_entry, point_passes, entry_passes, at_line, read_each, same_label_id, same_key, stands_among, refused_at, none_refused, base_of_bound, base_of_link, base_of}
+use Rattle.cert_checker.specs.Tables.{is_missing, none_missing, base_stands, stand_once, is_complete, place_in, comes_before, rises, order_passes, link_ids, has_open_conclusion, table_passes}
 use Rattle.cert_checker.specs.Sound.{IsSoundEdge}
 use Rattle.cert_checker.specs.Judgement.{refutation_passes, judged, judgement_of}
 use Rattle.cert_checker.specs.Laws.{AcceptedControls}
@@ -40,7 +41,7 @@ use Rattle.cert_checker.specs.declared.judgement.CertFault.{CertFault}
 use Rattle.cert_checker.specs.declared.judgement.CertFault.TheVariants.{UnknownItem, WeightRange, OrderBroken, NotClosed}
 use Rattle.cert_checker.specs.declared.judgement.Judgement.TheVariants.{Accepted}
 use Rattle.cert_checker.specs.declared.judgement.Claim.TheVariants.{NotControllable, Controllable}
-use Rattle.cert_format.proofs.PassingLemmas.{bind_ok, there_ok, unless_ok}
+use Rattle.cert_format.proofs.PassedStepLemmas.{bind_ok, there_ok, unless_ok}
 use Rattle.cert_checker.proofs.Inversion.{contains_at}
 use Rattle.cert_checker.proofs.ListLemmas.{some_passes, none_passes, holds_of, any_given, none_at, nothing_found}
 
@@ -189,7 +190,8 @@ module _ (net : Plan) (edges : List Edge) where
   link_stands ok name link declared =
       let (k, here) = at_place (enumerate_from 0 net.links) (0 + name.0, link) (place_numbered 0 net.links name.0 link declared) in
       let number : 0 + name.0 ≡ name.0 = omega arith in
-      let is = base_stood ok (base_of_link net (0 + name.0, link)) (Contains-append_right (map base_of_bound net.bounds) (map (base_of_link net) (enumerate_from 0 net.links)) (base_of_link net (0 + name.0, link)) (contains_mapped (base_of_link net) (enumerate_from 0 net.links) k (0 + name.0, link) here)) in
+      let is = base_stood ok (base_of_link net (0 + name.0, link)) (Contains-append_right (map base_of_bound net.bounds) (map (base_of_link net) (enumerate_from 0 net.links)) (base_of_link net (0 + name.0, link))
+      (contains_mapped (base_of_link net) (enumerate_from 0 net.links) k (0 + name.0, link) here)) in
       subst (λ (n : ℕ). Stands edges (link_edge (record { 0 = n }) link)) number is
 
 -- a test of two lists side by side
@@ -197,13 +199,13 @@ either_of : (a b : Bool) → (a || b) ≡ false → (a ≡ false) × (b ≡ fals
 either_of true b e = absurd (cc)
 either_of false b e = (refl, e)
 
-given_fails : {A : Type 0} (unmet : Edge → Bool) (give : A → Option Edge) (x : A) (edge : Edge) → give x ≡ Some edge → option_map_or unmet (give x) false ≡ false → unmet edge ≡ false
-given_fails unmet give x edge is fails = sym (ap (λ o. option_map_or unmet o false) is) ∙ fails
+given_fails : {A : Type 0} (unsaturated : Edge → Bool) (give : A → Option Edge) (x : A) (edge : Edge) → give x ≡ Some edge → option_map_or unsaturated (give x) false ≡ false → unsaturated edge ≡ false
+given_fails unsaturated give x edge is fails = sym (ap (λ o. option_map_or unsaturated o false) is) ∙ fails
 
--- what is given by an item of a list passes where nothing that is given fails
-given_stands : {A : Type 0} (unmet : Edge → Bool) (give : A → Option Edge) (xs : List A) (x : A) (edge : Edge) → list_any unmet (filter_map give xs) ≡ false → Contains xs x → give x ≡ Some edge → unmet edge ≡ false
-given_stands unmet give xs x edge none among is =
-    given_fails unmet give x edge is (none_passes (λ y. option_map_or unmet (give y) false) xs x (sym (any_given unmet give xs) ∙ none) among)
+-- what is given by an item of a list passes if nothing that is given fails
+given_stands : {A : Type 0} (unsaturated : Edge → Bool) (give : A → Option Edge) (xs : List A) (x : A) (edge : Edge) → list_any unsaturated (filter_map give xs) ≡ false → Contains xs x → give x ≡ Some edge → unsaturated edge ≡ false
+given_stands unsaturated give xs x edge none among is =
+    given_fails unsaturated give x edge is (none_passes (λ y. option_map_or unsaturated (give y) false) xs x (sym (any_given unsaturated give xs) ∙ none) among)
 
 pub link_among : (net : Plan) (name : LinkId) (link : Link) → IsLinkOf net name link → Contains (link_ids net) name
 link_among net name link declared =
@@ -219,18 +221,18 @@ record ClosedAt (net : Plan) (edges : List Edge) (second : Edge) : Type 0 where
   cross_cases : list_any (λ edge. not (stands_among edges edge)) (filter_map (λ name. cross_case net name second) (link_ids net)) ≡ false
   removals : list_any (λ edge. not (stands_among edges edge)) (filter_map (removal net) (second ∷ [])) ≡ false
 
-closed_at : (net : Plan) (edges : List Edge) (second : Edge) → is_open net edges second ≡ false → ClosedAt net edges second
+closed_at : (net : Plan) (edges : List Edge) (second : Edge) → has_open_conclusion net edges second ≡ false → ClosedAt net edges second
 closed_at net edges second none =
-    let unmet : Edge → Bool = λ edge. not (stands_among edges edge) in
+    let unsaturated : Edge → Bool = λ edge. not (stands_among edges edge) in
     let a : List Edge = filter_map (λ first. no_case first second) edges in
     let b : List Edge = filter_map (λ first. upper_case first second) edges in
     let c : List Edge = filter_map (λ name. lower_case net name second) (link_ids net) in
     let d : List Edge = filter_map (λ name. cross_case net name second) (link_ids net) in
     let e : List Edge = filter_map (removal net) (second ∷ []) in
-    let (first, more) = either_of (list_any unmet a) (list_any unmet (b ++ (c ++ (d ++ e)))) (sym (list_any-append unmet a (b ++ (c ++ (d ++ e)))) ∙ none) in
-    let (next, others) = either_of (list_any unmet b) (list_any unmet (c ++ (d ++ e))) (sym (list_any-append unmet b (c ++ (d ++ e))) ∙ more) in
-    let (third, rest) = either_of (list_any unmet c) (list_any unmet (d ++ e)) (sym (list_any-append unmet c (d ++ e)) ∙ others) in
-    let (fourth, last) = either_of (list_any unmet d) (list_any unmet e) (sym (list_any-append unmet d e) ∙ rest) in
+    let (first, more) = either_of (list_any unsaturated a) (list_any unsaturated (b ++ (c ++ (d ++ e)))) (sym (list_any-append unsaturated a (b ++ (c ++ (d ++ e)))) ∙ none) in
+    let (next, others) = either_of (list_any unsaturated b) (list_any unsaturated (c ++ (d ++ e))) (sym (list_any-append unsaturated b (c ++ (d ++ e))) ∙ more) in
+    let (third, rest) = either_of (list_any unsaturated c) (list_any unsaturated (d ++ e)) (sym (list_any-append unsaturated c (d ++ e)) ∙ others) in
+    let (fourth, last) = either_of (list_any unsaturated d) (list_any unsaturated e) (sym (list_any-append unsaturated d e) ∙ rest) in
     record { no_cases = first; upper_cases = next; lower_cases = third; cross_cases = fourth; removals = last }
 
 none_refused_ok : {A : Type 0} (line : ℕ) (why : CertFault) (refused : A → Bool) (xs : List A) (found : Option ℕ) → position refused xs ≡ found → refused_at line why found ≡ Ok tt → (x : A) → Contains xs x → refused x ≡ false
@@ -250,10 +252,10 @@ pub self_among : {A : Type 0} (x : A) → Contains (x ∷ []) x
 self_among x = (0, omega arith, refl)
 
 -- a table that passes is a closed list
-module _ (net : Plan) (line : ℕ) (edges : List Edge) (base : base_stands net edges ≡ Ok tt) (closed : none_refused line NotClosed (is_open net edges) edges ≡ Ok tt) where
+module _ (net : Plan) (line : ℕ) (edges : List Edge) (base : base_stands net edges ≡ Ok tt) (closed : none_refused line NotClosed (has_open_conclusion net edges) edges ≡ Ok tt) where
   at_second : (second : Edge) → Contains edges second → ClosedAt net edges second
   at_second second among =
-      closed_at net edges second (none_refused_ok line NotClosed (is_open net edges) edges (position (is_open net edges) edges) refl closed second among)
+      closed_at net edges second (none_refused_ok line NotClosed (has_open_conclusion net edges) edges (position (has_open_conclusion net edges) edges) refl closed second among)
 
   follows_stands : (edge : Edge) → Follows net edges edge → Stands edges edge
   follows_stands edge (by_bound place bound declared same) = subst (Stands edges) same (bound_stands net edges base place bound declared)
@@ -285,19 +287,19 @@ more_distinct : (point : PointId) (points : List PointId) → AllByRecursion (λ
 unfolding IsDistinct
 more_distinct point points apart distinct = (apart, distinct)
 
--- where a point stands neither among earlier ones nor is another
+-- if a point stands neither among earlier ones nor is another
 split_apart : (earlier : List PointId) (point p : PointId) → list_any (same_point p) (earlier ++ point ∷ []) ≡ false → (list_any (same_point p) earlier ≡ false) × (same_point point p ≡ false)
 split_apart earlier point p none =
-    let (front, back) = either_of (list_any (same_point p) earlier) (list_any (same_point p) (point ∷ [])) (sym (list_any-append (same_point p) earlier (point ∷ [])) ∙ none) in
+    let (prefix, back) = either_of (list_any (same_point p) earlier) (list_any (same_point p) (point ∷ [])) (sym (list_any-append (same_point p) earlier (point ∷ [])) ∙ none) in
     let (other, _) = either_of (same_point p point) false back in
-    (front, turned p point other)
+    (prefix, turned p point other)
   where
     turned : (p point : PointId) → same_point p point ≡ false → same_point point p ≡ false
     turned p point other = grind (arith, nat_tests)
 
-front_apart : (earlier : List PointId) (point : PointId) (points : List PointId) → AllByRecursion (λ p. list_any (same_point p) (earlier ++ point ∷ []) ≡ false) points → AllByRecursion (λ p. list_any (same_point p) earlier ≡ false) points
-front_apart earlier point [] apart = tt
-front_apart earlier point (p ∷ points) apart = ((split_apart earlier point p apart.0).0, front_apart earlier point points apart.1)
+prefix_apart : (earlier : List PointId) (point : PointId) (points : List PointId) → AllByRecursion (λ p. list_any (same_point p) (earlier ++ point ∷ []) ≡ false) points → AllByRecursion (λ p. list_any (same_point p) earlier ≡ false) points
+prefix_apart earlier point [] apart = tt
+prefix_apart earlier point (p ∷ points) apart = ((split_apart earlier point p apart.0).0, prefix_apart earlier point points apart.1)
 
 back_apart : (earlier : List PointId) (point : PointId) (points : List PointId) → AllByRecursion (λ p. list_any (same_point p) (earlier ++ point ∷ []) ≡ false) points → AllByRecursion (λ p. same_point point p ≡ false) points
 back_apart earlier point [] apart = tt
@@ -310,7 +312,7 @@ once_apart earlier (point ∷ points) ok =
     let (_, new, rest) = bind_ok (unless (not (list_any (same_point point) earlier)) (refusal (length earlier + 1) OrderBroken)) _ tt ok in
     let here : list_any (same_point point) earlier ≡ false = not_not (list_any (same_point point) earlier) (unless_ok (not (list_any (same_point point) earlier)) (refusal (length earlier + 1) OrderBroken) new) in
     let (apart, distinct) = once_apart (earlier ++ point ∷ []) points rest in
-    ((here, front_apart earlier point points apart), more_distinct point points (back_apart earlier point points apart) distinct)
+    ((here, prefix_apart earlier point points apart), more_distinct point points (back_apart earlier point points apart) distinct)
 
 self_same : (point p : PointId) → point ≡ p → same_point point p ≡ true
 self_same point p same =
@@ -343,7 +345,8 @@ place_at order k point distinct here =
     inside : (k n : ℕ) → k < n → cond (nat_lt k n) (Some k) None ≡ Some k
     inside k n within = rw (lt-ltb k n within) refl
 
-complete_numbered : (order : List PointId) (start : ℕ) (names : List (List ℕ)) (k : ℕ) → list_all (λ point. list_any (same_point (record { 0 = point.0 })) order) (enumerate_from start names) ≡ true → k < length names → list_any (same_point (record { 0 = start + k })) order ≡ true
+complete_numbered : (order : List PointId) (start : ℕ) (names : List (List ℕ)) (k : ℕ) → list_all (λ point. list_any (same_point (record { 0 = point.0 })) order) (enumerate_from start names) ≡ true → k < length names
+    → list_any (same_point (record { 0 = start + k })) order ≡ true
 complete_numbered order start [] k all within = absurd (omega arith)
 complete_numbered order start (name ∷ names) zero all within =
     let (first, rest) = and_parts (list_any (same_point (record { 0 = start })) order) _ all in
@@ -362,30 +365,32 @@ contained order point is =
 is_order : (net : Plan) (edges : List Edge) (order : List PointId) → order_passes net order edges ≡ Ok tt → IsOrder net edges order
 is_order net edges order ok =
     let (_, once, more) = bind_ok (stand_once [] order) _ tt ok in
-    let (_, complete, falls) = bind_ok (unless (is_complete net order) (refusal 0 OrderBroken)) _ tt more in
+    let (_, complete, descends) = bind_ok (unless (is_complete net order) (refusal 0 OrderBroken)) _ tt more in
     let distinct = (once_apart [] order once).1 in
     record {
-      complete = λ point within. contained order point (subst (λ (n : ℕ). list_any (same_point (record { 0 = n })) order ≡ true) (from_zero point.0) (complete_numbered order 0 net.points point.0 (unless_ok (is_complete net order) (refusal 0 OrderBroken) complete) within));
+      complete = λ point within. contained order point (subst (λ (n : ℕ). list_any (same_point (record { 0 = n })) order ≡ true) (from_zero point.0)
+          (complete_numbered order 0 net.points point.0 (unless_ok (is_complete net order) (refusal 0 OrderBroken) complete) within));
       once = distinct;
-      falls = λ edge later earlier among negative from to.
-          let never = none_refused_ok (length order + 1) OrderBroken (rises order) edges (position (rises order) edges) refl falls edge among in
+      descends = λ edge later earlier among negative from to.
+          let never = none_refused_ok (length order + 1) OrderBroken (rises order) edges (position (rises order) edges) refl descends edge among in
           let high = place_at order later edge.from distinct from in
           let low = place_at order earlier edge.to distinct to in
-          falls_by (is_ordinary edge) (is_negative edge) (place_in order edge.to) (place_in order edge.from) earlier later negative.0 negative.1 never low high;
+          is_less_by (is_ordinary edge) (is_negative edge) (place_in order edge.to) (place_in order edge.from) earlier later negative.0 negative.1 never low high;
     }
   where
     from_zero : (n : ℕ) → 0 + n ≡ n
     from_zero n = omega arith
 
-    falls_by : (ordinary negative : Bool) (to from : Option ℕ) (earlier later : ℕ) → IsTrue ordinary → IsTrue negative → (ordinary && negative && not (comes_before to from)) ≡ false → to ≡ Some earlier → from ≡ Some later → earlier < later
-    falls_by true true (Some a) (Some b) earlier later o n never low high =
+    is_less_by : (ordinary negative : Bool) (to from : Option ℕ) (earlier later : ℕ) → IsTrue ordinary → IsTrue negative → (ordinary && negative && not (comes_before to from)) ≡ false → to ≡ Some earlier → from ≡ Some later
+        → earlier < later
+    is_less_by true true (Some a) (Some b) earlier later o n never low high =
         let one : a ≡ earlier = same_Some a earlier low in
         let two : b ≡ later = same_Some b later high in
         grind arith
-    falls_by true true None from earlier later o n never low high = absurd (cc)
-    falls_by true true (Some a) None earlier later o n never low high = absurd (cc)
-    falls_by false negative to from earlier later o n never low high = absurd (cc)
-    falls_by true false to from earlier later o n never low high = absurd (cc)
+    is_less_by true true None from earlier later o n never low high = absurd (cc)
+    is_less_by true true (Some a) None earlier later o n never low high = absurd (cc)
+    is_less_by false negative to from earlier later o n never low high = absurd (cc)
+    is_less_by true false to from earlier later o n never low high = absurd (cc)
 
 -- ---- a table proof that passes
 sound_edges : (net : Plan) (edges : List Edge) → AllByRecursion (IsSoundEdge net) edges → AllByRecursion (IsEdge net) edges
@@ -417,5 +422,5 @@ controls_by law net (Refutation lines walk) instant accepted = absurd (other_cla
 controls_by law net (TableProof order entries) instant accepted = table_controls law net instant order entries (accepted_table (table_passes net order entries) accepted)
 
 -- an accepted table proof gives a strategy that controls the network
-pub accepted_controls : ClosedListsGiveStrategies → ControllableIsShown → ShownFormIsInstant → AcceptedControls
-accepted_controls law is_shown is_instant = λ net certificate plan accepted. (is_shown net plan).1 (controls_by law (shown_form net) certificate (is_instant net plan) accepted)
+pub law_accepted_controls : ClosedListsGiveStrategies → ControllableIsShown → ShownFormIsInstant → AcceptedControls
+law_accepted_controls law is_shown is_instant = λ net certificate plan accepted. (is_shown net plan).1 (controls_by law (shown_form net) certificate (is_instant net plan) accepted)

@@ -14,8 +14,9 @@ use Rattle.strategy_model.specs.Plays.{same_point}
 use Rattle.cert_format.specs.declared.entry.Entry.{Entry}
 use Rattle.cert_format.specs.JudgementForms.{◌>>=◌, unless}
 use Rattle.cert_checker.specs.Walk.{WalkPasses, refusal}
-use Rattle.cert_checker.specs.Tables.{at_line, base_of, edges_pass, entry_passes, is_complete, is_missing, is_open, none_missing, none_refused, ordered_passes, placed_passes, point_passes, read_each, refused_at, rises, stand_once, table_passes}
-use Rattle.cert_checker.specs.Ending.{RefusesLine}
+use Rattle.cert_checker.specs.Tables.{at_line, base_of, edges_pass, entry_passes, is_complete, is_missing, has_open_conclusion, none_missing, none_refused, ordered_passes, placed_passes, point_passes, read_each, refused_at, rises}
+use Rattle.cert_checker.specs.Tables.{stand_once, table_passes}
+use Rattle.cert_checker.specs.TestOutcomes.{RefusesLine}
 use Rattle.cert_checker.specs.TableRefusals.{IsFirst, IsNone, ReadsEach, stands_before, IsRead, HasBase, IsOrdered, IsRefusedTable, line_of_order, line_of_entry, lacks_base, stands_twice, lacks_point, edge_rises, not_closed}
 use Rattle.cert_checker.specs.Laws.{TablesAreRefusedAtTheFirstLine}
 use Rattle.cert_checker.specs.Judgement.{judged}
@@ -24,18 +25,19 @@ use Rattle.cert_checker.specs.declared.judgement.CertFault.{CertFault}
 use Rattle.cert_checker.specs.declared.judgement.CertFault.TheVariants.{NotClosed, OrderBroken}
 use Rattle.cert_checker.specs.declared.judgement.Claim.TheVariants.{Controllable}
 use Rattle.cert_checker.specs.declared.judgement.Judgement.TheVariants.{Refused}
-use Rattle.cert_checker.specs.declared.judgement.Refusal.{Refusal}
+use Rattle.cert_checker.specs.declared.judgement.RefusedLine.{RefusedLine}
 
 -- ---- what each line says
 module _ {A B : Type 0} (reading : A → Result B CertFault) where
-  abbrev pub said_then : ℕ → Result B CertFault → Result (List B) Refusal → Result (List B) Refusal
+  abbrev pub said_then : ℕ → Result B CertFault → Result (List B) RefusedLine → Result (List B) RefusedLine
   said_then line one rest = at_line line one >>= (λ first. rest >>= (λ others. Ok (first ∷ others)))
 
   says_each : (line : ℕ) (lines : List A) (said : List B) → read_each reading line lines ≡ Ok said → ReadsEach reading lines said
   says_each line [] said is = let same : [] ≡ said = cc in ap (map Ok) same
   says_each line (x ∷ xs) said is = by (says_each (line + 1) xs) (reading x) refl (read_each reading (line + 1) xs) refl is
     where
-      by : ((others : List B) → read_each reading (line + 1) xs ≡ Ok others → ReadsEach reading xs others) → (one : Result B CertFault) → reading x ≡ one → (rest : Result (List B) Refusal) → read_each reading (line + 1) xs ≡ rest → said_then line one rest ≡ Ok said
+      by : ((others : List B) → read_each reading (line + 1) xs ≡ Ok others → ReadsEach reading xs others) → (one : Result B CertFault) → reading x ≡ one → (rest : Result (List B) RefusedLine) → read_each reading (line + 1) xs ≡ rest
+          → said_then line one rest ≡ Ok said
           → ReadsEach reading (x ∷ xs) said
       by later (Ok first) here (Ok others) there is =
           let same : first ∷ others ≡ said = cc in
@@ -44,16 +46,17 @@ module _ {A B : Type 0} (reading : A → Result B CertFault) where
       by later (Ok first) here (Err refused) there is = absurd cc
       by later (Err why) here rest there is = absurd cc
 
-  stops_each : (line : ℕ) (lines : List A) (refused : Refusal) → read_each reading line lines ≡ Err refused → RefusesLine reading line lines refused
+  stops_each : (line : ℕ) (lines : List A) (refused : RefusedLine) → read_each reading line lines ≡ Err refused → RefusesLine reading line lines refused
   stops_each line [] refused is = absurd cc
   stops_each line (x ∷ xs) refused is = by (stops_each (line + 1) xs refused) (reading x) refl (read_each reading (line + 1) xs) refl is
     where
-      by : (read_each reading (line + 1) xs ≡ Err refused → RefusesLine reading (line + 1) xs refused) → (one : Result B CertFault) → reading x ≡ one → (rest : Result (List B) Refusal) → read_each reading (line + 1) xs ≡ rest → said_then line one rest ≡ Err refused
+      by : (read_each reading (line + 1) xs ≡ Err refused → RefusesLine reading (line + 1) xs refused) → (one : Result B CertFault) → reading x ≡ one → (rest : Result (List B) RefusedLine) → read_each reading (line + 1) xs ≡ rest
+          → said_then line one rest ≡ Err refused
           → RefusesLine reading line (x ∷ xs) refused
       by later (Ok first) here (Ok others) there is = absurd cc
       by later (Ok first) here (Err other) there is =
           let same : other ≡ refused = cc in
-          let stop = later (there ∙ ap (λ (r : Refusal). Err r) same) in
+          let stop = later (there ∙ ap (λ (r : RefusedLine). Err r) same) in
           record {
             place = suc stop.place;
             number = omega (arith, stop.number);
@@ -65,15 +68,15 @@ module _ {A B : Type 0} (reading : A → Result B CertFault) where
           before stop (suc other) one below at = stop.fault.before other one (omega (arith, below)) at
       by later (Err why) here rest there is =
           let same : refusal line why ≡ refused = refused_first rest is in
-          let cause : why ≡ refused.why = ap (λ (r : Refusal). r.why) same in
-          let number : line ≡ refused.line = ap (λ (r : Refusal). r.line) same in
+          let cause : why ≡ refused.why = ap (λ (r : RefusedLine). r.why) same in
+          let number : line ≡ refused.line = ap (λ (r : RefusedLine). r.line) same in
           record {
             place = 0;
             number = omega (arith, number);
             fault = record { line = x; here = refl; fault = here ∙ ap (λ (w : CertFault). Err w) cause; before = λ other one below at. absurd (omega (arith, below)) };
           }
         where
-          refused_first : (rest : Result (List B) Refusal) → said_then line (Err why) rest ≡ Err refused → refusal line why ≡ refused
+          refused_first : (rest : Result (List B) RefusedLine) → said_then line (Err why) rest ≡ Err refused → refusal line why ≡ refused
           refused_first rest is = cc
 
 -- ---- the first of which a test holds
@@ -100,7 +103,8 @@ module _ {A : Type 0} (test : A → Bool) where
           let over = ltb-false (position_or_len test items) (length items) under in
           ap test (sym (get_or_from_slice_get items place item item at)) ∙ fails_before_first test items place item (omega (arith, over, within))
 
-  refused_first : (line : ℕ) (why : CertFault) (items : List A) (refused : Refusal) → none_refused line why test items ≡ Err refused → (place : ℕ) × (item : A) × (refusal (line + place) why ≡ refused) × IsFirst (λ p. test) items place item
+  refused_first : (line : ℕ) (why : CertFault) (items : List A) (refused : RefusedLine) → none_refused line why test items ≡ Err refused
+      → (place : ℕ) × (item : A) × (refusal (line + place) why ≡ refused) × IsFirst (λ p. test) items place item
   refused_first line why items refused is = by (position test items) refl is
     where
       by : (o : Option ℕ) → position test items ≡ o → refused_at line why o ≡ Err refused → (place : ℕ) × (item : A) × (refusal (line + place) why ≡ refused) × IsFirst (λ p. test) items place item
@@ -139,14 +143,14 @@ module _ {A : Type 0} (test : A → Bool) where
 abbrev pub stands_in : List PointId → PointId → Bool
 stands_in points point = list_any (same_point point) points
 
--- the first point that stands before it, where these come before them all
-record TwiceAt (earlier points : List PointId) (refused : Refusal) : Type 0 where
+-- the first point that stands before it, if these come before them all
+record TwiceAt (earlier points : List PointId) (refused : RefusedLine) : Type 0 where
   pub place : ℕ
   pub point : PointId
   pub is : refusal (length earlier + 1 + place) OrderBroken ≡ refused
   pub first : IsFirst (λ p. stands_in (earlier ++ take p points)) points place point
 
-twice_at : (earlier points : List PointId) (refused : Refusal) → stand_once earlier points ≡ Err refused → TwiceAt earlier points refused
+twice_at : (earlier points : List PointId) (refused : RefusedLine) → stand_once earlier points ≡ Err refused → TwiceAt earlier points refused
 twice_at earlier [] refused is = absurd cc
 twice_at earlier (x ∷ xs) refused is = by (twice_at (earlier ++ x ∷ []) xs refused) (stands_in earlier x) refl is
   where
@@ -193,11 +197,11 @@ once_each earlier (x ∷ xs) is place item at = by (once_each (earlier ++ x ∷ 
 
 -- ---- all together
 module _ (net : Plan) (order : List (List ℕ)) (entries : List Entry) where
-  abbrev IsRefused : Refusal → Type 0
+  abbrev IsRefused : RefusedLine → Type 0
   IsRefused refused = IsRefusedTable net order entries refused.line refused.why
 
-  as_told : (line : ℕ) (why : CertFault) (refused : Refusal) → refusal line why ≡ refused → IsRefusedTable net order entries line why → IsRefused refused
-  as_told line why refused same one = subst IsRefused same one
+  as_refused : (line : ℕ) (why : CertFault) (refused : RefusedLine) → refusal line why ≡ refused → IsRefusedTable net order entries line why → IsRefused refused
+  as_refused line why refused same one = subst IsRefused same one
 
   module _ (points : List PointId) (edges : List Edge) where
     counted : IsRead net order entries points edges → length points ≡ length order
@@ -208,60 +212,61 @@ module _ (net : Plan) (order : List (List ℕ)) (entries : List Entry) where
         let there = length-map points ok in
         omega (arith, sizes, here, there)
 
-    closing : (refused : Refusal) → IsOrdered net order entries points edges → IsNone (λ p. rises points) edges → none_refused (length points + 1) NotClosed (is_open net edges) edges ≡ Err refused → IsRefused refused
-    closing refused ordered falls is =
-        let (place, edge, same, first) = refused_first (is_open net edges) (length points + 1) NotClosed edges refused is in
-        as_told (length order + 1 + place) NotClosed refused (ap (λ (n : ℕ). refusal (n + 1 + place) NotClosed) (sym (counted ordered.has_base.is_read)) ∙ same) (not_closed points edges place edge ordered falls first)
+    closing : (refused : RefusedLine) → IsOrdered net order entries points edges → IsNone (λ p. rises points) edges → none_refused (length points + 1) NotClosed (has_open_conclusion net edges) edges ≡ Err refused → IsRefused refused
+    closing refused ordered descends is =
+        let (place, edge, same, first) = refused_first (has_open_conclusion net edges) (length points + 1) NotClosed edges refused is in
+        as_refused (length order + 1 + place) NotClosed refused (ap (λ (n : ℕ). refusal (n + 1 + place) NotClosed) (sym (counted ordered.has_base.is_read)) ∙ same) (not_closed points edges place edge ordered descends first)
 
-    falling : (refused : Refusal) → IsOrdered net order entries points edges → (falls : WalkPasses) → none_refused (length points + 1) OrderBroken (rises points) edges ≡ falls
-        → (falls >>= (λ w. none_refused (length points + 1) NotClosed (is_open net edges) edges)) ≡ Err refused → IsRefused refused
-    falling refused ordered (Ok w) said is = closing refused ordered (refused_none (rises points) (length points + 1) OrderBroken edges said) is
-    falling refused ordered (Err r) said is =
+    descending : (refused : RefusedLine) → IsOrdered net order entries points edges → (descends : WalkPasses) → none_refused (length points + 1) OrderBroken (rises points) edges ≡ descends
+        → (descends >>= (λ w. none_refused (length points + 1) NotClosed (has_open_conclusion net edges) edges)) ≡ Err refused → IsRefused refused
+    descending refused ordered (Ok w) said is = closing refused ordered (refused_none (rises points) (length points + 1) OrderBroken edges said) is
+    descending refused ordered (Err r) said is =
         let (place, edge, same, first) = refused_first (rises points) (length points + 1) OrderBroken edges r said in
-        let told : r ≡ refused = cc in
-        as_told (length order + 1 + place) OrderBroken refused (ap (λ (n : ℕ). refusal (n + 1 + place) OrderBroken) (sym (counted ordered.has_base.is_read)) ∙ (same ∙ told)) (edge_rises points edges place edge ordered first)
+        let reported : r ≡ refused = cc in
+        as_refused (length order + 1 + place) OrderBroken refused (ap (λ (n : ℕ). refusal (n + 1 + place) OrderBroken) (sym (counted ordered.has_base.is_read)) ∙ (same ∙ reported)) (edge_rises points edges place edge ordered first)
 
-    complete_then : (refused : Refusal) → HasBase net order entries points edges → IsNone (stands_before points) points → (b : Bool) → is_complete net points ≡ b
-        → ((unless b (refusal 0 OrderBroken) >>= (λ w. none_refused (length points + 1) OrderBroken (rises points) edges)) >>= (λ w. none_refused (length points + 1) NotClosed (is_open net edges) edges)) ≡ Err refused → IsRefused refused
-    complete_then refused base once true complete is = falling refused (record { has_base = base; once = once; complete = complete }) (none_refused (length points + 1) OrderBroken (rises points) edges) refl is
+    complete_then : (refused : RefusedLine) → HasBase net order entries points edges → IsNone (stands_before points) points → (b : Bool) → is_complete net points ≡ b
+        → ((unless b (refusal 0 OrderBroken) >>= (λ w. none_refused (length points + 1) OrderBroken (rises points) edges)) >>= (λ w. none_refused (length points + 1) NotClosed (has_open_conclusion net edges) edges)) ≡ Err refused
+        → IsRefused refused
+    complete_then refused base once true complete is = descending refused (record { has_base = base; once = once; complete = complete }) (none_refused (length points + 1) OrderBroken (rises points) edges) refl is
     complete_then refused base once false complete is =
-        let told : refusal 0 OrderBroken ≡ refused = cc in
-        as_told 0 OrderBroken refused told (lacks_point points edges base once complete)
+        let reported : refusal 0 OrderBroken ≡ refused = cc in
+        as_refused 0 OrderBroken refused reported (lacks_point points edges base once complete)
 
-    once_then : (refused : Refusal) → HasBase net order entries points edges → (once : WalkPasses) → stand_once [] points ≡ once
-        → ((once >>= (λ w. placed_passes net points edges)) >>= (λ w. none_refused (length points + 1) NotClosed (is_open net edges) edges)) ≡ Err refused → IsRefused refused
+    once_then : (refused : RefusedLine) → HasBase net order entries points edges → (once : WalkPasses) → stand_once [] points ≡ once
+        → ((once >>= (λ w. placed_passes net points edges)) >>= (λ w. none_refused (length points + 1) NotClosed (has_open_conclusion net edges) edges)) ≡ Err refused → IsRefused refused
     once_then refused base (Ok w) said is = complete_then refused base (once_each [] points said) (is_complete net points) refl is
     once_then refused base (Err r) said is =
         let one = twice_at [] points r said in
-        let told : r ≡ refused = cc in
-        as_told (1 + one.place) OrderBroken refused (one.is ∙ told) (stands_twice points edges one.place one.point base one.first)
+        let reported : r ≡ refused = cc in
+        as_refused (1 + one.place) OrderBroken refused (one.is ∙ reported) (stands_twice points edges one.place one.point base one.first)
 
-    base_then : (refused : Refusal) → IsRead net order entries points edges → (found : Option Base) → find (is_missing edges) (base_of net) ≡ found
+    base_then : (refused : RefusedLine) → IsRead net order entries points edges → (found : Option Base) → find (is_missing edges) (base_of net) ≡ found
         → (none_missing found >>= (λ w. ordered_passes net points edges)) ≡ Err refused → IsRefused refused
     base_then refused reads None found is = once_then refused (record { is_read = reads; base = found_none (is_missing edges) (base_of net) found }) (stand_once [] points) refl is
     base_then refused reads (Some base) found is =
         let (place, first) = found_first (is_missing edges) (base_of net) base found in
-        let told : refusal 0 base.missing ≡ refused = cc in
-        as_told 0 base.missing refused told (lacks_base points edges place base reads first)
+        let reported : refusal 0 base.missing ≡ refused = cc in
+        as_refused 0 base.missing refused reported (lacks_base points edges place base reads first)
 
-  entries_then : (refused : Refusal) (points : List PointId) → ReadsEach (point_passes net) order points → (said : Result (List Edge) Refusal) → read_each (entry_passes net) (length order + 1) entries ≡ said
+  entries_then : (refused : RefusedLine) (points : List PointId) → ReadsEach (point_passes net) order points → (said : Result (List Edge) RefusedLine) → read_each (entry_passes net) (length order + 1) entries ≡ said
       → (said >>= (λ edges. edges_pass net points edges)) ≡ Err refused → IsRefused refused
   entries_then refused points says (Ok edges) said is =
       base_then points edges refused (record { order_says = says; entries_say = says_each (entry_passes net) (length order + 1) entries edges said }) (find (is_missing edges) (base_of net)) refl is
   entries_then refused points says (Err r) said is =
-      let told : r ≡ refused = cc in
+      let reported : r ≡ refused = cc in
       let stop = stops_each (entry_passes net) (length order + 1) entries r said in
-      subst IsRefused told (subst (λ (n : ℕ). IsRefusedTable net order entries n r.why) (sym stop.number) (line_of_entry points stop.place r.why says stop.fault))
+      subst IsRefused reported (subst (λ (n : ℕ). IsRefusedTable net order entries n r.why) (sym stop.number) (line_of_entry points stop.place r.why says stop.fault))
 
-  order_then : (refused : Refusal) (said : Result (List PointId) Refusal) → read_each (point_passes net) 1 order ≡ said
+  order_then : (refused : RefusedLine) (said : Result (List PointId) RefusedLine) → read_each (point_passes net) 1 order ≡ said
       → (said >>= (λ points. read_each (entry_passes net) (length order + 1) entries >>= (λ edges. edges_pass net points edges))) ≡ Err refused → IsRefused refused
   order_then refused (Ok points) said is = entries_then refused points (says_each (point_passes net) 1 order points said) (read_each (entry_passes net) (length order + 1) entries) refl is
   order_then refused (Err r) said is =
-      let told : r ≡ refused = cc in
+      let reported : r ≡ refused = cc in
       let stop = stops_each (point_passes net) 1 order r said in
-      subst IsRefused told (subst (λ (n : ℕ). IsRefusedTable net order entries n r.why) (sym stop.number) (line_of_order stop.place r.why stop.fault))
+      subst IsRefused reported (subst (λ (n : ℕ). IsRefusedTable net order entries n r.why) (sym stop.number) (line_of_order stop.place r.why stop.fault))
 
-  table_refused : (refused : Refusal) → table_passes net order entries ≡ Err refused → IsRefused refused
+  table_refused : (refused : RefusedLine) → table_passes net order entries ≡ Err refused → IsRefused refused
   unfolding table_passes
   table_refused refused is = order_then refused (read_each (point_passes net) 1 order) refl is
 

@@ -6,7 +6,8 @@ use Rattle.cert_checker.specs.declared.judgement.Claim.TheVariants.{NotControlla
 use Rattle.cert_checker.specs.declared.judgement.Judgement.{Judgement}
 use Rattle.cert_checker.specs.declared.judgement.Judgement.TheVariants.{Accepted, Refused}
 use Rattle.cert_checker.specs.declared.judgement.CertFault.{CertFault}
-use Rattle.cert_checker.specs.declared.judgement.CertFault.TheVariants.{UnknownItem, Premise, RuleCondition, Ends, Label, TooLow, WalkBroken, WalkNotNegative, WeightRange, MissingBound, MissingLink, OrderBroken, NotClosed}
+use Rattle.cert_checker.specs.declared.judgement.CertFault.TheVariants.{UnknownItem, Premise, RuleCondition, Ends, Label, TooLow, WalkBroken, WalkNotNegative}
+use Rattle.cert_checker.specs.declared.judgement.CertFault.TheVariants.{WeightRange, MissingBound, MissingLink, OrderBroken, NotClosed}
 
 abbrev pub fault_text : CertFault → List ℕ
 fault_text UnknownItem = codes "unknown-item"

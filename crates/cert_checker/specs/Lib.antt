@@ -7,8 +7,8 @@ pub mod Sound
 pub mod Least
 pub mod Few
 pub mod Orders
-pub mod Ending
-pub mod Opening
+pub mod TestOutcomes
+pub mod OpenEntries
 pub mod JudgementText
 pub mod Refusals
 pub mod TableRefusals

@@ -1,6 +1,7 @@
 -- When a rule line of a refutation passes, or why it does not. It goes over the text of the certificate alone and derives
 -- no edge. The rules are those of Morris and Muscettola 2005, in this project's form.
-use Rattle.std.specs.Prelude.{ℕ, ℤ, pos, ◌-ℤ◌, ◌+ℤ◌, ◌==◌, ◌&&◌, not, Bool, true, false, List, Option, Some, None, is_some, is_none, Result, slice_get, nat_le, int_lt, int_le, unsigned_abs, zero, suc}
+use Rattle.std.specs.Prelude.{ℕ, ℤ, pos, ◌-ℤ◌, ◌+ℤ◌, ◌==◌, ◌&&◌, not, Bool, true, false, List, Option, Some, None, is_some, is_none, Result, slice_get, nat_le}
+use Rattle.std.specs.Prelude.{int_lt, int_le, unsigned_abs, zero, suc}
 use Rattle.std.specs.Int.{int_max}
 use Rattle.std.specs.Option.{option_and_then, option_map_or}
 use Rattle.std.specs.Str.{bytes_eq}
@@ -46,11 +47,11 @@ abbrev pub label_of : CertLine → Option (List ℕ)
 label_of line = label_by line.kind line.label
 
 -- two labels are the same
-abbrev pub same_label : Option (List ℕ) → Option (List ℕ) → Bool
-same_label (Some x) (Some y) = bytes_eq x y
-same_label None None = true
-same_label (Some x) None = false
-same_label None (Some y) = false
+abbrev pub same_label_names : Option (List ℕ) → Option (List ℕ) → Bool
+same_label_names (Some x) (Some y) = bytes_eq x y
+same_label_names None None = true
+same_label_names (Some x) None = false
+same_label_names None (Some y) = false
 
 -- the item that a rule names is in the network
 abbrev pub item_known : Plan → LineKind → Bool
@@ -86,7 +87,7 @@ at_least line least = unless (int_le least line.weight) (TooLow line.weight leas
 
 -- the label of a line is the one of its premise, which has one
 abbrev pub has_label_of : CertLine → CertLine → Bool
-has_label_of line premise = is_some (label_of premise) && same_label line.label (label_of premise)
+has_label_of line premise = is_some (label_of premise) && same_label_names line.label (label_of premise)
 
 -- a line goes from where its premise begins to where it ends
 abbrev pub has_ends_of : CertLine → CertLine → Bool
@@ -106,7 +107,7 @@ is_negative weight = int_lt weight (pos 0)
 
 -- a premise of negative weight, and a line whose label is not this link's
 abbrev pub may_cross : CertLine → CertLine → List ℕ → Bool
-may_cross line second name = is_negative second.weight && not (same_label line.label (Some name))
+may_cross line second name = is_negative second.weight && not (same_label_names line.label (Some name))
 
 -- the edge of a line goes from a point to a point
 abbrev pub goes : Plan → CertLine → PointId → PointId → Bool

@@ -6,11 +6,11 @@ use Rattle.net_model.specs.declared.ids.PointId.{PointId}
 use Rattle.cert_checker.specs.TableRefusals.{IsNone, stands_before}
 use Rattle.cert_checker.specs.Tables.{place_in}
 
-pub record ArePlaces (order : List PointId) (places : List (Option ℕ)) : Type 0 where
+pub record AreOptionalPlaces (order : List PointId) (places : List (Option ℕ)) : Type 0 where
   pub each : (point : PointId) → slice_index_or places point.0 None ≡ place_in order point
 
--- a place for each point of the network, where no point stands twice in the order
+-- a place for each point of the network, if no point stands twice in the order
 pub record ArePlacesOf (net : Plan) (order : List PointId) (places : List (Option ℕ)) : Type 0 where
   pub count : length places ≡ length net.points
-  pub of_each : ArePlaces order places
+  pub of_each : AreOptionalPlaces order places
   pub once : IsNone (stands_before order) order

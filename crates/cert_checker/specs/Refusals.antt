@@ -7,7 +7,8 @@ use Rattle.cert_checker.specs.Lines.{line_passes}
 use Rattle.cert_checker.specs.Walk.{refusal, total_weight, walked, walk_passes}
 use Rattle.cert_checker.specs.Judgement.{lines_pass}
 use Rattle.cert_checker.specs.declared.judgement.CertFault.{CertFault}
-use Rattle.cert_checker.specs.declared.judgement.CertFault.TheVariants.{TooLow, WalkBroken, WalkNotNegative, WeightRange, MissingBound, MissingLink, OrderBroken, NotClosed}
+use Rattle.cert_checker.specs.declared.judgement.CertFault.TheVariants.{TooLow, WalkBroken, WalkNotNegative, WeightRange, MissingBound, MissingLink}
+use Rattle.cert_checker.specs.declared.judgement.CertFault.TheVariants.{OrderBroken, NotClosed}
 
 -- what the fault of a rule line says of that line alone: its numbers are the line's weight and one above it; a weight is
 -- beyond the limit; and no fault of a walk or of a table is one of a rule line

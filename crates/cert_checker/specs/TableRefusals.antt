@@ -6,7 +6,7 @@ use Rattle.net_model.specs.declared.ids.PointId.{PointId}
 use Rattle.net_model.specs.declared.part.Edge.{Edge}
 use Rattle.strategy_model.specs.Plays.{same_point}
 use Rattle.cert_format.specs.declared.entry.Entry.{Entry}
-use Rattle.cert_checker.specs.Tables.{base_of, entry_passes, is_complete, is_missing, is_open, point_passes, rises}
+use Rattle.cert_checker.specs.Tables.{base_of, entry_passes, is_complete, is_missing, has_open_conclusion, point_passes, rises}
 use Rattle.cert_checker.specs.declared.base.Base.{Base}
 use Rattle.cert_checker.specs.declared.judgement.CertFault.{CertFault}
 use Rattle.cert_checker.specs.declared.judgement.CertFault.TheVariants.{NotClosed, OrderBroken}
@@ -37,7 +37,7 @@ abbrev pub stands_before : List PointId → ℕ → PointId → Bool
 stands_before points place point = list_any (same_point point) (take place points)
 
 module _ (net : Plan) (order : List (List ℕ)) (entries : List Entry) where
-  -- the points of the order and the edges of the entries, where each line names what the network has
+  -- the points of the order and the edges of the entries, if each line names what the network has
   pub record IsRead (points : List PointId) (edges : List Edge) : Type 0 where
     pub order_says : ReadsEach (point_passes net) order points
     pub entries_say : ReadsEach (entry_passes net) entries edges
@@ -53,17 +53,22 @@ module _ (net : Plan) (order : List (List ℕ)) (entries : List Entry) where
     pub once : IsNone (stands_before points) points
     pub complete : is_complete net points ≡ true
 
-  -- A table proof is refused at a line, where 0 is none, for this cause. `line_of_order`, `line_of_entry`: the first line of the order, or of
-  -- the entries, that names what the network has not, or whose weight is beyond the limit. `lacks_base`: the first bound, else the first
-  -- link, whose edge does not stand among them. `stands_twice`: the first line of the order whose point stands before it. `lacks_point`: a
-  -- point of the network stands in none. `edge_rises`: the first entry that is a negative ordinary edge and does not go from a later point
-  -- to an earlier one. `not_closed`: the first entry of which, with the others, a rule gives an edge that does not stand among them. The
-  -- tests come in this order.
+  -- A table proof is refused at a line (0 is none) for this cause. `line_of_order`, `line_of_entry`: the first line of the order, or of the entries, that names
+  -- what the network has not, or whose weight is beyond the limit. `lacks_base`: the first bound, else the first link, whose edge does not stand among them.
+  -- `stands_twice`: the first line of the order whose point stands before it. `lacks_point`: a point of the network stands in none. `edge_rises`: the first
+  -- entry that is a negative ordinary edge and does not go from a later point to an earlier one. `not_closed`: the first entry of which, with the others, a
+  -- rule gives an edge that does not stand among them. The tests come in this order.
   pub data IsRefusedTable : ℕ → CertFault → Type 0 where
     line_of_order : (place : ℕ) (why : CertFault) → IsFirstFault (point_passes net) order place why → IsRefusedTable (1 + place) why
-    line_of_entry : (points : List PointId) (place : ℕ) (why : CertFault) → ReadsEach (point_passes net) order points → IsFirstFault (entry_passes net) entries place why → IsRefusedTable (length order + 1 + place) why
-    lacks_base : (points : List PointId) (edges : List Edge) (place : ℕ) (base : Base) → IsRead points edges → IsFirst (λ place. is_missing edges) (base_of net) place base → IsRefusedTable 0 base.missing
-    stands_twice : (points : List PointId) (edges : List Edge) (place : ℕ) (point : PointId) → HasBase points edges → IsFirst (stands_before points) points place point → IsRefusedTable (1 + place) OrderBroken
-    lacks_point : (points : List PointId) (edges : List Edge) → HasBase points edges → IsNone (stands_before points) points → is_complete net points ≡ false → IsRefusedTable 0 OrderBroken
-    edge_rises : (points : List PointId) (edges : List Edge) (place : ℕ) (edge : Edge) → IsOrdered points edges → IsFirst (λ place. rises points) edges place edge → IsRefusedTable (length order + 1 + place) OrderBroken
-    not_closed : (points : List PointId) (edges : List Edge) (place : ℕ) (edge : Edge) → IsOrdered points edges → IsNone (λ place. rises points) edges → IsFirst (λ place. is_open net edges) edges place edge → IsRefusedTable (length order + 1 + place) NotClosed
+    line_of_entry : (points : List PointId) (place : ℕ) (why : CertFault) → ReadsEach (point_passes net) order points
+        → IsFirstFault (entry_passes net) entries place why → IsRefusedTable (length order + 1 + place) why
+    lacks_base : (points : List PointId) (edges : List Edge) (place : ℕ) (base : Base) → IsRead points edges
+        → IsFirst (λ place. is_missing edges) (base_of net) place base → IsRefusedTable 0 base.missing
+    stands_twice : (points : List PointId) (edges : List Edge) (place : ℕ) (point : PointId) → HasBase points edges
+        → IsFirst (stands_before points) points place point → IsRefusedTable (1 + place) OrderBroken
+    lacks_point : (points : List PointId) (edges : List Edge) → HasBase points edges → IsNone (stands_before points) points → is_complete net points ≡ false
+        → IsRefusedTable 0 OrderBroken
+    edge_rises : (points : List PointId) (edges : List Edge) (place : ℕ) (edge : Edge) → IsOrdered points edges
+        → IsFirst (λ place. rises points) edges place edge → IsRefusedTable (length order + 1 + place) OrderBroken
+    not_closed : (points : List PointId) (edges : List Edge) (place : ℕ) (edge : Edge) → IsOrdered points edges → IsNone (λ place. rises points) edges
+        → IsFirst (λ place. has_open_conclusion net edges) edges place edge → IsRefusedTable (length order + 1 + place) NotClosed

@@ -1,6 +1,7 @@
 -- When a table proof passes, or at which line and why it does not. It goes over the text of the certificate alone: what the rules
 -- give from its entries is looked for among them. The rules are those of Morris and Muscettola 2005, in this project's exact form.
-use Rattle.std.specs.Prelude.{ℕ, ◌+◌, ◌==◌, ◌&&◌, not, Bool, true, false, ℤ, List, [], ◌∷◌, ◌++◌, map, length, find, Option, Some, None, Result, Ok, Err, int_le, nat_lt, slice_get}
+use Rattle.std.specs.Prelude.{ℕ, ◌+◌, ◌==◌, ◌&&◌, not, Bool, true, false, ℤ, List, [], ◌∷◌, ◌++◌, map, length, find, Option, Some, None, Result, Ok, Err}
+use Rattle.std.specs.Prelude.{int_le, nat_lt, slice_get}
 use Rattle.std.specs.List.{position, list_any, list_all, filter_map, enumerate_from}
 use Rattle.std.specs.Option.{option_and_then, option_map}
 use Rattle.net_model.specs.Network.{Plan, point_named, link_named as link_id}
@@ -16,7 +17,7 @@ use Rattle.cert_format.specs.declared.entry.Entry.{Entry}
 use Rattle.cert_format.specs.JudgementForms.{◌>>=◌, unless, there}
 use Rattle.cert_checker.specs.Lines.{in_range}
 use Rattle.cert_checker.specs.Walk.{WalkPasses, refusal}
-use Rattle.cert_checker.specs.declared.judgement.Refusal.{Refusal}
+use Rattle.cert_checker.specs.declared.judgement.RefusedLine.{RefusedLine}
 use Rattle.cert_checker.specs.declared.judgement.CertFault.{CertFault}
 use Rattle.cert_checker.specs.declared.judgement.CertFault.TheVariants.{UnknownItem, WeightRange, MissingBound, MissingLink, OrderBroken, NotClosed}
 use Rattle.cert_checker.specs.declared.base.Base.{Base}
@@ -34,9 +35,10 @@ labelled_by label from link weight = record { from = from; to = link.from; label
 
 abbrev pub labelled_of : Plan → List ℕ → List ℕ → ℤ → Option Edge
 labelled_of net from label weight =
-    option_and_then (λ x. option_and_then (λ name. option_map (λ link. labelled_by (Some name) x link weight) (slice_get net.links name.0)) (link_id net label)) (point_named net from)
+    option_and_then (λ x. option_and_then (λ name. option_map (λ link. labelled_by (Some name) x link weight) (slice_get net.links name.0))
+    (link_id net label)) (point_named net from)
 
--- the edge that an entry states, where its names are in the network
+-- the edge that an entry states, if its names are in the network
 abbrev pub edge_by : Plan → List ℕ → Option (List ℕ) → Option (List ℕ) → ℤ → Option Edge
 edge_by net from (Some to) label weight = ordinary_of net from to weight
 edge_by net from None (Some label) weight = labelled_of net from label weight
@@ -56,12 +58,12 @@ entry_passes net entry = do
   range ← unless (in_range entry.weight) WeightRange
   Ok edge
 
-abbrev pub at_line : {A : Type 0} → ℕ → Result A CertFault → Result A Refusal
+abbrev pub at_line : {A : Type 0} → ℕ → Result A CertFault → Result A RefusedLine
 at_line line (Ok x) = Ok x
 at_line line (Err why) = Err (refusal line why)
 
 -- what each of these lines says, of which the first has this number, or the first that is refused
-abbrev pub read_each : {A B : Type 0} → (A → Result B CertFault) → ℕ → List A → Result (List B) Refusal
+abbrev pub read_each : {A B : Type 0} → (A → Result B CertFault) → ℕ → List A → Result (List B) RefusedLine
 read_each read line [] = Ok []
 read_each read line (x ∷ xs) = do
   first ← at_line line (read x)
@@ -94,11 +96,11 @@ none_refused line why refused items = refused_at line why (position refused item
 
 -- ---- the base: each edge of a bound and of a link stands among them
 
--- the edge of a bound, and the fault where it is missing
+-- the edge of a bound, and the fault if it is missing
 abbrev pub base_of_bound : Bound → Base
 base_of_bound bound = record { edge = bound_edge bound; missing = MissingBound bound.name }
 
--- the edge of a link of a number, and the fault where it is missing, which has the name of its contingent point
+-- the edge of a link of a number, and the fault if it is missing, which has the name of its contingent point
 abbrev pub base_of_link : Plan → ℕ × Link → Base
 base_of_link net link =
     record { edge = link_edge (record { 0 = link.0 }) link.1; missing = MissingLink (point_name net.points link.1.to) }
@@ -143,7 +145,7 @@ comes_before place other = false
 abbrev pub rises : List PointId → Edge → Bool
 rises order edge = is_ordinary edge && is_negative edge && not (comes_before (place_in order edge.to) (place_in order edge.from))
 
--- no point is missing, and each negative ordinary edge falls
+-- no point is missing, and each negative ordinary edge goes from a later point to an earlier one
 abbrev pub placed_passes : Plan → List PointId → List Edge → WalkPasses
 placed_passes net order edges = do
   complete ← unless (is_complete net order) (refusal 0 OrderBroken)
@@ -170,16 +172,16 @@ conclusions net edges second =
     ++ filter_map (removal net) (second ∷ []))))
 
 -- something of that does not stand among the edges
-abbrev pub is_open : Plan → List Edge → Edge → Bool
-is_open net edges second = list_any (λ edge. not (stands_among edges edge)) (conclusions net edges second)
+abbrev pub has_open_conclusion : Plan → List Edge → Edge → Bool
+has_open_conclusion net edges second = list_any (λ edge. not (stands_among edges edge)) (conclusions net edges second)
 
 -- ---- all together
 
 -- the order of a table, and then its closure; the lines of entries come after those of the order
 abbrev pub ordered_passes : Plan → List PointId → List Edge → WalkPasses
 ordered_passes net order edges = do
-  falls ← order_passes net order edges
-  none_refused (length order + 1) NotClosed (is_open net edges) edges
+  descends ← order_passes net order edges
+  none_refused (length order + 1) NotClosed (has_open_conclusion net edges) edges
 
 -- the base of a table, and then these
 abbrev pub edges_pass : Plan → List PointId → List Edge → WalkPasses

@@ -16,7 +16,7 @@ use Rattle.cert_checker.specs.Lines.{label_of}
 use Rattle.cert_checker.specs.declared.judgement.Judgement.{Judgement}
 use Rattle.cert_checker.specs.declared.judgement.Judgement.TheVariants.{Accepted, Refused}
 
--- a label is no link where it is absent, else the link that ends in the point of its name
+-- a label is no link if it is absent, else the link that ends in the point of its name
 abbrev pub IsLabel : Plan → Option (List ℕ) → Option LinkId → Type 0
 IsLabel net None label = label ≡ None
 IsLabel net (Some name) label = (id : LinkId) × (link_id net name ≡ Some id) × (label ≡ Some id)
@@ -33,7 +33,7 @@ abbrev pub IsTrueOf : Plan → Tree → CertLine → Type 0
 IsTrueOf net strategy line = (edge : Edge) × States net line edge × HoldsOf net strategy edge
 
 -- lines that are true of every strategy that controls the network
-pub record AreTrue (net : Plan) (lines : List CertLine) : Type 0 where
+pub record AreTrueLines (net : Plan) (lines : List CertLine) : Type 0 where
   pub of_each : (strategy : Tree) → Controls strategy net → All (IsTrueOf net strategy) lines
 
 -- a line states an edge that holds of what is shown, by a strategy
@@ -44,7 +44,7 @@ IsTrueAsShown net strategy line = (edge : Edge) × States (shown_form net) line 
 pub record AreTrueAsShown (net : Plan) (lines : List CertLine) : Type 0 where
   pub of_each : (strategy : Tree) → Controls strategy net → All (IsTrueAsShown net strategy) lines
 
--- the rule lines that passed, of a refutation: all where the certificate is accepted, else those before the line that is refused
+-- the rule lines that passed, of a refutation: all if the certificate is accepted, else those before the line that is refused
 abbrev pub passed_lines : Certificate → Judgement → List CertLine
 passed_lines (Refutation lines walk) (Accepted claim) = lines
 passed_lines (TableProof order entries) judgement = []

@@ -6,15 +6,15 @@ use Rattle.std.specs.Str.{bytes_eq}
 use Rattle.cert_format.specs.declared.line.CertLine.{CertLine}
 use Rattle.cert_format.specs.JudgementForms.{◌>>=◌, unless, there}
 use Rattle.cert_checker.specs.Lines.{line_at}
-use Rattle.cert_checker.specs.declared.judgement.Refusal.{Refusal}
+use Rattle.cert_checker.specs.declared.judgement.RefusedLine.{RefusedLine}
 use Rattle.cert_checker.specs.declared.judgement.CertFault.{CertFault}
 use Rattle.cert_checker.specs.declared.judgement.CertFault.TheVariants.{Premise, WalkBroken, WalkNotNegative}
 
 -- a walk passes, or is refused at a line
 abbrev pub WalkPasses : Type 0
-WalkPasses = Result (Unit {0}) Refusal
+WalkPasses = Result (Unit {0}) RefusedLine
 
-abbrev pub refusal : ℕ → CertFault → Refusal
+abbrev pub refusal : ℕ → CertFault → RefusedLine
 refusal place why = record { line = place; why = why }
 
 -- each step of a walk is the number of a line; `place` is the number of the first step's own line
@@ -41,9 +41,9 @@ total_weight (line ∷ lines) = line.weight +ℤ total_weight lines
 abbrev pub is_negative_total : ℕ → ℤ → WalkPasses
 is_negative_total place total = unless (int_lt total (pos 0)) (refusal place (WalkNotNegative total))
 
--- the weight of the line of a number, or 0 where it is none
-abbrev pub weight_at : List CertLine → ℕ → ℤ
-weight_at lines number = option_map_or (λ (line : CertLine). line.weight) (line_at lines number) (pos 0)
+-- the weight of the line of a number, or 0 if there is none
+abbrev pub weight_of_line : List CertLine → ℕ → ℤ
+weight_of_line lines number = option_map_or (λ (line : CertLine). line.weight) (line_at lines number) (pos 0)
 
 -- the walk over these lines, of which the first stands at `place`: it is closed, and its total is negative
 abbrev pub is_negative_walk : ℕ → List CertLine → WalkPasses

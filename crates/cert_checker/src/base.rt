@@ -1,13 +1,15 @@
+//! The edges of bounds and links that the entries of a table proof must contain.
+
 ghost use Rattle.std.specs.Prelude.{◌≡◌, ◌++◌, IfOk, OnOk, map};
 ghost use Rattle.std.specs.List.{enumerate_from};
 ghost use Rattle.cert_checker.specs.Tables.{base_of, base_of_bound, base_of_link};
 
 use crate::judgement::CertFault;
-use crate::shown::Shown;
+use crate::shown::ShownNetwork;
 use net_model::{BoundId, Edge, LinkId, bound_edge, link_edge};
 use std::alloc::{AllocError, Global};
 
-/// The edge of a bound or of a link, and what is refused where it is missing.
+/// The edge of a bound or of a link, and what is refused if it is missing.
 #[derive(Clone, Copy)]
 pub(crate) struct Base {
     pub(crate) edge: Edge,
@@ -15,7 +17,7 @@ pub(crate) struct Base {
 }
 
 /// Those of bounds, in order, and then those of links.
-pub(crate) fn base_of(alloc: Global, net: &Shown) -> Result<Vec<Base>, AllocError>
+pub(crate) fn base_of(alloc: Global, net: &ShownNetwork) -> Result<Vec<Base>, AllocError>
     ensures { IfOk result (λ base. base.items ≡ base_of net.now) }
 {
     let mut base = Vec::new(alloc);
@@ -24,7 +26,7 @@ pub(crate) fn base_of(alloc: Global, net: &Shown) -> Result<Vec<Base>, AllocErro
     Ok(base)
 }
 
-fn push_bounds(net: &Shown, base: &mut Vec<Base>) -> Result<(), AllocError>
+fn push_bounds(net: &ShownNetwork, base: &mut Vec<Base>) -> Result<(), AllocError>
     ensures { OnOk result (base.new.items ≡ base.old.items ++ map base_of_bound net.now.bounds) }
 {
     net.sound();
@@ -37,8 +39,9 @@ fn push_bounds(net: &Shown, base: &mut Vec<Base>) -> Result<(), AllocError>
     Ok(())
 }
 
-fn push_links(net: &Shown, base: &mut Vec<Base>) -> Result<(), AllocError>
-    ensures { OnOk result (base.new.items ≡ base.old.items ++ map (base_of_link net.now) (enumerate_from 0 net.now.links)) }
+fn push_links(net: &ShownNetwork, base: &mut Vec<Base>) -> Result<(), AllocError>
+    ensures { OnOk result (base.new.items ≡ base.old.items ++ map (base_of_link net.now)
+        (enumerate_from 0 net.now.links)) }
 {
     net.sound();
     for index in 0..net.link_count() {

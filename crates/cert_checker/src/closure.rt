@@ -4,36 +4,38 @@ ghost use Rattle.std.specs.Prelude.{◌≡◌, ◌≤◌, ◌<ℤ◌, ◌||◌, 
 ghost use Rattle.net_model.specs.Limits.{most_weight};
 ghost use Rattle.net_model.specs.Network.{IsLink};
 ghost use Rattle.net_model.specs.Rules.{is_labelled_by, moved_to_activation, removal};
-ghost use Rattle.cert_checker.specs.Opening.{is_open_after, is_open_before, is_unmet};
+ghost use Rattle.cert_checker.specs.OpenEntries.{is_open_after, is_open_before, is_unsaturated};
 ghost use Rattle.cert_checker.specs.Sound.{IsShort, IsSoundEdge};
-ghost use Rattle.cert_checker.specs.Tables.{is_open, stands_among};
+ghost use Rattle.cert_checker.specs.Tables.{has_open_conclusion, stands_among};
 
-use crate::shown::Shown;
-use crate::table::Table;
+use crate::shown::ShownNetwork;
+use crate::table::ProofTable;
 use net_model::{Edge, Link, LinkId};
 
-/// Whether by some rule, with this edge as the second premise, as the edge after the lower-case edge, or as the premise of
-/// removal, the entries give an edge that does not stand among them. Of the first premises of a key only the least matters.
-pub(crate) fn opens(table: &Table, second: &Edge) -> bool
+/// Whether by some rule, with this edge as the second premise, as the edge after the lower-case
+/// edge, or as the premise of removal, the entries give an edge that does not stand among them. Of
+/// the first premises of a key only the least matters.
+pub(crate) fn opens(table: &ProofTable, second: &Edge) -> bool
     requires { IsSoundEdge table.now.net second.now }
-    ensures { result ≡ is_open table.now.net table.now.edges second.now }
+    ensures { result ≡ has_open_conclusion table.now.net table.now.edges second.now }
 {
     opens_without_label(table, second) || (second.weight < 0 && opens_negative(table, second))
 }
 
 /// The same of a negative edge, without removal.
-fn opens_negative(table: &Table, second: &Edge) -> bool
+fn opens_negative(table: &ProofTable, second: &Edge) -> bool
     requires sound { IsSoundEdge table.now.net second.now }
     requires negative { second.now.weight <ℤ pos 0 }
-    ensures { result ≡ (is_open_before table.now.edges second.now || is_open_after table.now.net table.now.edges second.now) }
+    ensures { result ≡ (is_open_before table.now.edges second.now || is_open_after table.now.net
+        table.now.edges second.now) }
 {
     table.opens_before(second) || opens_after(table, second)
 }
 
 /// By removal.
-fn opens_without_label(table: &Table, edge: &Edge) -> bool
+fn opens_without_label(table: &ProofTable, edge: &Edge) -> bool
     requires { IsSoundEdge table.now.net edge.now }
-    ensures { result ≡ is_unmet table.now.edges (removal table.now.net edge.now) }
+    ensures { result ≡ is_unsaturated table.now.edges (removal table.now.net edge.now) }
 {
     match without_label(table.net(), edge) {
         Some(given) => table.lacks(&given),
@@ -43,7 +45,7 @@ fn opens_without_label(table: &Table, edge: &Edge) -> bool
 
 /// The edge that removal gives.
 #[tactic(auto, unfolding(net_model::specs::Rules::removal))]
-fn without_label(net: &Shown, edge: &Edge) -> Option<Edge>
+fn without_label(net: &ShownNetwork, edge: &Edge) -> Option<Edge>
     ensures { result ≡ removal net.now edge.now }
 {
     let link = net.link_at(edge.label?)?;
@@ -56,7 +58,7 @@ fn without_label(net: &Shown, edge: &Edge) -> Option<Edge>
 }
 
 /// By the lower-case or the cross-case rule, with the link that ends where the edge begins.
-fn opens_after(table: &Table, second: &Edge) -> bool
+fn opens_after(table: &ProofTable, second: &Edge) -> bool
     requires sound { IsSoundEdge table.now.net second.now }
     requires negative { second.now.weight <ℤ pos 0 }
     ensures { result ≡ is_open_after table.now.net table.now.edges second.now }
@@ -72,15 +74,17 @@ fn opens_after(table: &Table, second: &Edge) -> bool
 }
 
 /// The same with the link of a number.
-fn opens_at_link(table: &Table, second: &Edge, name: LinkId, link: &Link) -> bool
+fn opens_at_link(table: &ProofTable, second: &Edge, name: LinkId, link: &Link) -> bool
     requires sound { IsSoundEdge table.now.net second.now }
     requires link { IsLink table.now.net link.now }
-    ensures { result ≡ (not (is_labelled_by name second.now) && not (stands_among table.now.edges (moved_to_activation link.now second.now))) }
+    ensures { result ≡ (not (is_labelled_by name second.now) && not
+        (stands_among table.now.edges (moved_to_activation link.now second.now))) }
 {
     second.label != Some(name) && table.lacks(&moved(link, second))
 }
 
-/// The edge from the link's activation point that follows from one that begins in its contingent point.
+/// The edge from the link's activation point that follows from one that begins in its contingent
+/// point.
 fn moved(link: &Link, second: &Edge) -> Edge
     requires short { IsShort link.now }
     requires weight { unsigned_abs second.now.weight ≤ most_weight }

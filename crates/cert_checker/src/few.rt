@@ -1,6 +1,8 @@
+//! A row of words that is stored as the points in which an entry begins.
+
 ghost use Rattle.std.specs.Prelude.{◌≡◌, ◌<◌, ℕ, length, IfOk, OnOk, replicate};
 ghost use Rattle.std.specs.List.{slice_index_or};
-ghost use Rattle.cert_checker.specs.Few.{AreStarts, IsPlaceOf, words_of};
+ghost use Rattle.cert_checker.specs.Few.{AreRisingStarts, IsPlaceOfPoint, words_of};
 ghost use Rattle.cert_checker.specs.Least.{absent, lowered_row};
 
 use net_model::Weight;
@@ -10,6 +12,9 @@ use std::marker::Model;
 /// The word of a point in which no entry begins.
 pub(crate) const ABSENT: Weight = i64::MAX;
 
+/// Entries are many if there is one for each so many points.
+const POINTS_PER_ENTRY: usize = 5;
+
 /// A point in which an entry begins, by its number, and its word.
 #[derive(Clone, Copy)]
 pub(crate) struct Start {
@@ -17,7 +22,8 @@ pub(crate) struct Start {
     pub(crate) word: Weight,
 }
 
-/// A row of words, held as the points in which an entry begins, in their order. Contracts see it as the list of its words.
+/// A row of words, stored as the points in which an entry begins, in their order. Contracts see it
+/// as the list of its words.
 #[derive(Drop)]
 pub(crate) struct Few {
     points: u32,
@@ -26,13 +32,13 @@ pub(crate) struct Few {
 
 impl Model for Few {
     ghost use Rattle.std.specs.Prelude.{List, ℤ};
-    ghost use Rattle.cert_checker.specs.Few.{AreStarts, words_of};
+    ghost use Rattle.cert_checker.specs.Few.{AreRisingStarts, words_of};
 
     ghost Value = { List ℤ };
 
     ghost view = { λ few. words_of few.points few.starts.items };
 
-    ghost invariant = { λ few. AreStarts few.points few.starts.items };
+    ghost invariant = { λ few. AreRisingStarts few.points few.starts.items };
 }
 
 impl Few {
@@ -56,7 +62,7 @@ impl Few {
     /// The points in which an entry begins, in their order.
     pub(crate) fn starts(&self) -> &[Start]
         ensures words { self.now ≡ words_of (length self.now) result.now }
-        ensures sound { AreStarts (length self.now) result.now }
+        ensures sound { AreRisingStarts (length self.now) result.now }
     {
         self.starts.as_slice()
     }
@@ -70,7 +76,7 @@ impl Few {
 
     /// Whether they take as much memory as a word for each point would, or nearly.
     pub(crate) fn are_many(&self) -> bool {
-        self.starts.len() >= self.points as usize / 5
+        self.starts.len() >= self.points as usize / POINTS_PER_ENTRY
     }
 
     /// The word of a point.
@@ -113,7 +119,8 @@ impl Few {
 
 /// The place of the one of a point, or that at which it would stand.
 fn place_of(starts: &[Start], from: u32) -> Result<usize, usize>
-    ensures { (points : ℕ) → AreStarts points starts.now → IsPlaceOf starts.now from result }
+    ensures { (points : ℕ) → AreRisingStarts points starts.now
+        → IsPlaceOfPoint starts.now from result }
 {
     starts.binary_search_by(|start| start.from.cmp(&from))
 }

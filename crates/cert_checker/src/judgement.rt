@@ -1,3 +1,5 @@
+//! What a judgement says of a certificate, and why a line is refused.
+
 use net_model::{Name, Weight};
 use std::alloc::{AllocError, AllocFailed};
 use std::error::Error;
@@ -31,14 +33,16 @@ impl fmt::Display for Claim {
 pub enum CertFault {
     /// The line names a bound, a point or a link that is not in the network.
     UnknownItem,
-    /// A premise is not the number of an earlier rule line, or a step of the walk not that of a rule line.
+    /// A premise is not the number of an earlier rule line, or a step of the walk not that of a
+    /// rule line.
     Premise,
-    /// The premise of the lower-case or the cross-case rule has a weight of 0 or more, or the label of a cross-case line
-    /// is its own link.
+    /// The premise of the lower-case or the cross-case rule has a weight of 0 or more, or the label
+    /// of a cross-case line is its own link.
     RuleCondition,
     /// The ends of the line are not those that its rule gives, or its premises do not meet.
     Ends,
-    /// A premise has a label where it may have none, none where it must have one, or another than the line.
+    /// A premise has a label but must have none, or has none but must have one, or has another than
+    /// the line.
     Label,
     /// The weight is below the least that the rule gives.
     TooLow { given: Weight, least: Weight },
@@ -50,13 +54,14 @@ pub enum CertFault {
     WeightRange,
     /// No entry has the ends of the bound of this name and a weight of at most its number.
     MissingBound(Name),
-    /// No entry has the ends and the label of the link that ends in the point of this name, and a weight of at most the
-    /// negative of its longest duration.
+    /// No entry has the ends and the label of the link that ends in the point of this name, and a
+    /// weight of at most the negative of its longest duration.
     MissingLink(Name),
-    /// The point stood in the order before, a point is missing in it, or a negative ordinary entry does not go from a later
-    /// point to an earlier one.
+    /// The point stood in the order before, a point is missing in it, or a negative ordinary entry
+    /// does not go from a later point to an earlier one.
     OrderBroken,
-    /// By a rule the entry gives an edge for which no entry has its ends and its label and a weight of at most its own.
+    /// By a rule the entry gives an edge for which no entry has its ends and its label and a weight
+    /// of at most its own.
     NotClosed,
 }
 
@@ -87,8 +92,9 @@ impl fmt::Display for CertFault {
 
 impl Error for CertFault {}
 
-/// What is said of a certificate. Lines are counted from 1 as its rules count them: those that are not blank, after
-/// its second line; 0 is no line.
+/// What is said of a certificate. Lines are counted from 1 as its rules count them: those that are
+/// not blank, after its second line; 0 is no line. `Display` gives the words that the program
+/// prints for it.
 #[derive(Clone, Copy, Debug, PartialEq, Eq)]
 pub enum Judgement {
     /// The certificate proves its claim.
@@ -113,47 +119,47 @@ impl fmt::Display for Judgement {
 
 /// The first line that does not pass, and why.
 #[derive(Clone, Copy)]
-pub(crate) struct Refusal {
+pub(crate) struct RefusedLine {
     pub(crate) line: u64,
     pub(crate) why: CertFault,
 }
 
-/// Why a judgement stops: a line does not pass, or memory is wanting.
+/// Why a judgement stops: a line does not pass, or memory ran out.
 #[derive(Clone, Copy)]
-pub(crate) enum Stop {
-    Refused(Refusal),
+pub(crate) enum Failure {
+    Refused(RefusedLine),
     OutOfMemory,
 }
 
-impl From<Refusal> for Stop {
+impl From<RefusedLine> for Failure {
     ghost use Rattle.std.specs.Prelude.{◌≡◌};
-    ghost use Rattle.cert_checker.specs.declared.judgement.Stop.TheVariants.{Refused};
+    ghost use Rattle.cert_checker.specs.declared.judgement.Failure.TheVariants.{Refused};
 
     ghost from_gives = { λ refusal stop. stop ≡ Refused refusal };
 
-    fn from(refusal: Refusal) -> Stop {
-        Stop::Refused(refusal)
+    fn from(refusal: RefusedLine) -> Failure {
+        Failure::Refused(refusal)
     }
 }
 
-impl From<AllocError> for Stop {
+impl From<AllocError> for Failure {
     ghost use Rattle.std.specs.Prelude.{◌≡◌};
-    ghost use Rattle.cert_checker.specs.declared.judgement.Stop.TheVariants.{OutOfMemory};
+    ghost use Rattle.cert_checker.specs.declared.judgement.Failure.TheVariants.{OutOfMemory};
 
     ghost from_gives = { λ _ stop. stop ≡ OutOfMemory };
 
-    fn from(_error: AllocError) -> Stop {
-        Stop::OutOfMemory
+    fn from(_error: AllocError) -> Failure {
+        Failure::OutOfMemory
     }
 }
 
-impl<T: Drop> From<AllocFailed<T>> for Stop {
+impl<T: Drop> From<AllocFailed<T>> for Failure {
     ghost use Rattle.std.specs.Prelude.{◌≡◌};
-    ghost use Rattle.cert_checker.specs.declared.judgement.Stop.TheVariants.{OutOfMemory};
+    ghost use Rattle.cert_checker.specs.declared.judgement.Failure.TheVariants.{OutOfMemory};
 
     ghost from_gives = { λ _ stop. stop ≡ OutOfMemory };
 
-    fn from(_error: AllocFailed<T>) -> Stop {
-        Stop::OutOfMemory
+    fn from(_error: AllocFailed<T>) -> Failure {
+        Failure::OutOfMemory
     }
 }

@@ -1,13 +1,18 @@
-ghost use Rattle.std.specs.Prelude.{◌≡◌, ◌<◌, ◌≤◌, ◌<ℤ◌, ℕ, List, pos, length, IfOk, OnOk, replicate, unsigned_abs};
+//! The least weight of each key among entries.
+
+ghost use Rattle.std.specs.Prelude.{◌≡◌, ◌<◌, ◌≤◌, ◌<ℤ◌, ℕ, List, pos, length, IfOk, OnOk};
+ghost use Rattle.std.specs.Prelude.{replicate, unsigned_abs};
 ghost use Rattle.net_model.specs.Limits.{most_weight};
 ghost use Rattle.net_model.specs.Edges.{IsEdge};
 ghost use Rattle.net_model.specs.Network.{Plan};
-ghost use Rattle.cert_checker.specs.Least.{IsFor, IsSmallEdge, IsTableOf, HasPlaceInTable, IsPlacedBefore, absent, falls_in, least_of, no_weights, row_in, row_of, with_entry};
+ghost use Rattle.cert_checker.specs.Least.{IsSizedFor, IsSmallEdge, IsLeastTable, HasPlaceInTable};
+ghost use Rattle.cert_checker.specs.Least.{IsPlacedBefore, absent, improves_in, least_of};
+ghost use Rattle.cert_checker.specs.Least.{no_weights, row_in, row_of_words, with_entry};
 ghost use Rattle.cert_checker.specs.Sound.{AreSound};
 ghost use Rattle.cert_checker.specs.Tables.{stands_among};
 
-use crate::row::Row;
-use crate::shown::Shown;
+use crate::row::WeightRow;
+use crate::shown::ShownNetwork;
 use net_model::Edge;
 use std::alloc::{AllocError, Global};
 use std::marker::Model;
@@ -15,8 +20,8 @@ use std::marker::Model;
 /// The least weight of each key among entries. Contracts see it as its rows of words.
 #[derive(Drop)]
 pub(crate) struct LeastWeights {
-    ordinary: Vec<Row>,
-    labelled: Vec<Row>,
+    ordinary: Vec<WeightRow>,
+    labelled: Vec<WeightRow>,
 }
 
 impl Model for LeastWeights {
@@ -24,15 +29,22 @@ impl Model for LeastWeights {
 
     ghost Value = { Weights };
 
-    ghost view = { λ least. record { ordinary = least.ordinary.items; labelled = least.labelled.items } };
+    ghost view = { λ least. record {
+      ordinary = least.ordinary.items;
+      labelled = least.labelled.items;
+    } };
 }
 
 impl LeastWeights {
     /// Those of edges of a network.
-    pub(crate) fn of(alloc: Global, net: &Shown, edges: &[Edge]) -> Result<LeastWeights, AllocError>
+    pub(crate) fn of(
+        alloc: Global,
+        net: &ShownNetwork,
+        edges: &[Edge],
+    ) -> Result<LeastWeights, AllocError>
         requires { AreSound net.now edges.now }
         ensures least { IfOk result (λ least. least ≡ least_of net.now edges.now) }
-        ensures shape { IfOk result (IsFor (length net.now.points) (length net.now.links)) }
+        ensures shape { IfOk result (IsSizedFor (length net.now.points) (length net.now.links)) }
     {
         let mut least = LeastWeights::without_entries(alloc, net)?;
         for edge in edges {
@@ -41,8 +53,9 @@ impl LeastWeights {
         Ok(least)
     }
 
-    fn without_entries(alloc: Global, net: &Shown) -> Result<LeastWeights, AllocError>
-        ensures { IfOk result (λ least. least ≡ no_weights (length net.now.points) (length net.now.links)) }
+    fn without_entries(alloc: Global, net: &ShownNetwork) -> Result<LeastWeights, AllocError>
+        ensures { IfOk result (λ least. least ≡ no_weights (length net.now.points)
+            (length net.now.links)) }
     {
         let points = net.points().len();
         Ok(LeastWeights {
@@ -69,9 +82,9 @@ impl LeastWeights {
     }
 
     /// The row of the edges that end where an edge ends, or that have its label.
-    fn row_of(&self, edge: &Edge) -> &Row
+    fn row_of_words(&self, edge: &Edge) -> &WeightRow
         requires { HasPlaceInTable self.now edge.now }
-        ensures { result.now ≡ row_of self.now edge.now }
+        ensures { result.now ≡ row_of_words self.now edge.now }
     {
         match edge.label {
             None => &self.ordinary[edge.to.0 as usize],
@@ -80,34 +93,37 @@ impl LeastWeights {
     }
 
     /// Whether an edge stands among the entries, of which these are the least weights.
-    pub(crate) fn has_at_most(&self, edge: &Edge) -> bool
+    pub(crate) fn has_word_at_most(&self, edge: &Edge) -> bool
         requires { HasPlaceInTable self.now edge.now }
-        ensures { (net : Plan) (first : ℕ) (edges : List Edge) → IsTableOf net first edges self.now → IsSmallEdge net edge.now → result ≡ stands_among edges edge.now }
+        ensures { (net : Plan) (first : ℕ) (edges : List Edge)
+            → IsLeastTable net first edges self.now → IsSmallEdge net edge.now
+            → result ≡ stands_among edges edge.now }
     {
-        self.row_of(edge).get(edge.from) <= edge.weight
+        self.row_of_words(edge).get(edge.from) <= edge.weight
     }
 
-    /// Whether, at some point, the word of the row of the edges that end where a negative edge begins, counted as 0 where it is
-    /// below, and then that edge go below the word of its own row.
-    pub(crate) fn falls_before(&self, second: &Edge) -> bool
+    /// Whether, at some point, the word of the row of the edges that end where a negative edge
+    /// begins, counted as 0 if it is below, and then that edge go below the word of its own row.
+    pub(crate) fn improves_before(&self, second: &Edge) -> bool
         requires placed { HasPlaceInTable self.now second.now }
         requires before { IsPlacedBefore self.now second.now }
         requires negative { second.now.weight <ℤ pos 0 }
         requires weight { unsigned_abs second.now.weight ≤ most_weight }
-        ensures { result ≡ falls_in (row_in self.now.ordinary second.now.from.0) (row_of self.now second.now) second.now.weight }
+        ensures { result ≡ improves_in (row_in self.now.ordinary second.now.from.0)
+            (row_of_words self.now second.now) second.now.weight }
     {
         let firsts = &self.ordinary[second.from.0 as usize];
-        firsts.falls_in(self.row_of(second), second)
+        firsts.improves_in(self.row_of_words(second), second)
     }
 }
 
 /// Rows without weights.
-fn absent_rows(alloc: Global, count: usize, points: u32) -> Result<Vec<Row>, AllocError>
+fn absent_rows(alloc: Global, count: usize, points: u32) -> Result<Vec<WeightRow>, AllocError>
     ensures { IfOk result (λ rows. rows.items ≡ replicate count (replicate points absent)) }
 {
     let mut rows = Vec::new(alloc);
     for _row in 0..count {
-        rows.push(Row::absent(alloc, points))?;
+        rows.push(WeightRow::absent(alloc, points))?;
     }
     Ok(rows)
 }

@@ -1,8 +1,9 @@
-//! The judgement of certificates. It goes over the text of a certificate alone, and derives no edge.
+//! The judgement of certificates. It goes over the text of a certificate alone, and derives no
+//! edge.
 #![tactic(auto)]
 
 mod base;
-mod checking;
+mod certificate_judge;
 mod closure;
 mod entries;
 mod few;
@@ -18,6 +19,6 @@ mod shown;
 mod table;
 mod walk;
 
-pub use checking::judge;
+pub use certificate_judge::judge;
 pub use judgement::{CertFault, Claim, Judgement};
 pub use scan::first_refused;

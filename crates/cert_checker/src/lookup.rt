@@ -1,13 +1,16 @@
+//! What the names and the numbers in the lines of a certificate stand for.
+
 ghost use Rattle.std.specs.Prelude.{◌≡◌, option_copied, IfSome};
 ghost use Rattle.net_model.specs.Network.{IsLink};
-ghost use Rattle.cert_checker.specs.Lines.{link_named, bound_of, label_of, item_known, label_known, names_known, line_at};
+ghost use Rattle.cert_checker.specs.Lines.{link_named, bound_of, label_of, item_known, label_known};
+ghost use Rattle.cert_checker.specs.Lines.{names_known, line_at};
 
-use crate::shown::Shown;
+use crate::shown::ShownNetwork;
 use cert_format::{CertLine, LineKind};
 use net_model::{Bound, Link, Name};
 
 /// The link that ends in the point of a name.
-pub(crate) fn link_named(net: &Shown, name: &Name) -> Option<Link>
+pub(crate) fn link_named(net: &ShownNetwork, name: &Name) -> Option<Link>
     ensures link { result ≡ link_named net.now name.now }
     ensures sound { IfSome result (IsLink net.now) }
 {
@@ -17,7 +20,7 @@ pub(crate) fn link_named(net: &Shown, name: &Name) -> Option<Link>
 }
 
 /// The bound of a name.
-pub(crate) fn bound_of(net: &Shown, name: &Name) -> Option<Bound>
+pub(crate) fn bound_of(net: &ShownNetwork, name: &Name) -> Option<Bound>
     ensures { result ≡ bound_of net.now name.now }
 {
     let bound = net.bound(name.bytes())?;
@@ -44,7 +47,7 @@ pub(crate) fn line_at(lines: &[CertLine], number: u64) -> Option<&CertLine>
 
 /// Whether each name of a line is in the network.
 #[tactic(auto, unfolding(crate::specs::Lines::names_known))]
-pub(crate) fn names_known(net: &Shown, line: &CertLine) -> bool
+pub(crate) fn names_known(net: &ShownNetwork, line: &CertLine) -> bool
     ensures { result ≡ names_known net.now line.now }
 {
     net.point(line.from.bytes()).is_some()
@@ -53,7 +56,7 @@ pub(crate) fn names_known(net: &Shown, line: &CertLine) -> bool
         && is_label_known(net, &line.label)
 }
 
-fn is_item_known(net: &Shown, kind: &LineKind) -> bool
+fn is_item_known(net: &ShownNetwork, kind: &LineKind) -> bool
     ensures { result ≡ item_known net.now kind.now }
 {
     match kind {
@@ -65,7 +68,7 @@ fn is_item_known(net: &Shown, kind: &LineKind) -> bool
     }
 }
 
-fn is_label_known(net: &Shown, label: &Option<Name>) -> bool
+fn is_label_known(net: &ShownNetwork, label: &Option<Name>) -> bool
     ensures { result ≡ label_known net.now label.now }
 {
     match label {

@@ -3,18 +3,19 @@
 ghost use Rattle.std.specs.Prelude.{◌≡◌, IfOk, is_some, length, []};
 ghost use Rattle.std.specs.List.{All, list_all};
 ghost use Rattle.net_model.specs.Network.{IsPoint};
-ghost use Rattle.cert_checker.specs.Ending.{Ends, IsWhole, RefusesItem, RefusesOrder};
-ghost use Rattle.cert_checker.specs.Orders.{ArePlaces, ArePlacesOf};
+ghost use Rattle.cert_checker.specs.TestOutcomes.{Ends, IsWholeOrder, RefusesItem, RefusesOrder};
+ghost use Rattle.cert_checker.specs.Orders.{AreOptionalPlaces, ArePlacesOf};
 ghost use Rattle.cert_checker.specs.TableRefusals.{stands_before};
 ghost use Rattle.cert_checker.specs.Tables.{comes_before, place_in, rises};
 
-use crate::judgement::{CertFault, Refusal, Stop};
-use crate::shown::Shown;
+use crate::judgement::{CertFault, Failure, RefusedLine};
+use crate::shown::ShownNetwork;
 use net_model::{Edge, PointId};
 use std::alloc::{AllocError, Global};
 use std::marker::Model;
 
-/// The order of a table proof, in which each point of the network stands once. Contracts see it as the list of its points.
+/// The order of a table proof, in which each point of the network stands once. Contracts see it as
+/// the list of its points.
 #[derive(Drop)]
 pub(crate) struct Order {
     points: Vec<PointId>,
@@ -24,40 +25,48 @@ pub(crate) struct Order {
 impl Model for Order {
     ghost use Rattle.std.specs.Prelude.{List};
     ghost use Rattle.net_model.specs.declared.ids.PointId.{PointId};
-    ghost use Rattle.cert_checker.specs.Orders.{ArePlaces};
+    ghost use Rattle.cert_checker.specs.Orders.{AreOptionalPlaces};
 
     ghost Value = { List PointId };
 
     ghost view = { λ order. order.points.items };
 
-    ghost invariant = { λ order. ArePlaces order.points.items order.places.items };
+    ghost invariant = { λ order. AreOptionalPlaces order.points.items order.places.items };
 }
 
 impl Order {
-    /// The order of these points, or the refusal of its first point that stands before in it, or, at no line, of a point that is missing.
-    pub(crate) fn of(alloc: Global, net: &Shown, points: Vec<PointId>) -> Result<Order, Stop>
+    /// The order of these points, or the refusal of its first point that stands before in it, or,
+    /// at no line, of a point that is missing.
+    pub(crate) fn of(
+        alloc: Global,
+        net: &ShownNetwork,
+        points: Vec<PointId>,
+    ) -> Result<Order, Failure>
         requires { All (IsPoint net.now) points.items }
-        ensures { Ends result (λ order. (order ≡ points.items) × IsWhole net.now points.items) (RefusesOrder net.now points.items) }
+        ensures { Ends result (λ order. (order ≡ points.items) × IsWholeOrder net.now points.items)
+            (RefusesOrder net.now points.items) }
     {
         let places = places_of(alloc, net, points.as_slice())?;
         if !are_there(places.as_slice()) {
             let why = CertFault::OrderBroken;
-            return Err(Stop::Refused(Refusal { line: 0, why }));
+            return Err(Failure::Refused(RefusedLine { line: 0, why }));
         }
         Ok(Order { points, places })
     }
 
-    /// Whether an edge is a negative ordinary one that does not go from a later point to an earlier one.
+    /// Whether an edge is a negative ordinary one that does not go from a later point to an earlier
+    /// one.
     pub(crate) fn rises(&self, edge: &Edge) -> bool
         ensures { result ≡ rises self.now edge.now }
     {
         let is_negative_ordinary = edge.label.is_none() && edge.weight < 0;
-        is_negative_ordinary && !self.falls(edge)
+        is_negative_ordinary && !self.descends(edge)
     }
 
     /// Whether an edge goes from a later point to an earlier one.
-    fn falls(&self, edge: &Edge) -> bool
-        ensures { result ≡ comes_before (place_in self.now edge.now.to) (place_in self.now edge.now.from) }
+    fn descends(&self, edge: &Edge) -> bool
+        ensures { result ≡ comes_before (place_in self.now edge.now.to)
+            (place_in self.now edge.now.from) }
     {
         match (self.place(edge.to), self.place(edge.from)) {
             (Some(to), Some(from)) => to < from,
@@ -74,15 +83,20 @@ impl Order {
 }
 
 /// The place of each point in an order, or the refusal of its first point that stands before in it.
-fn places_of(alloc: Global, net: &Shown, order: &[PointId]) -> Result<Vec<Option<usize>>, Stop>
+fn places_of(
+    alloc: Global,
+    net: &ShownNetwork,
+    order: &[PointId],
+) -> Result<Vec<Option<usize>>, Failure>
     requires { All (IsPoint net.now) order.now }
-    ensures { Ends result (λ places. ArePlacesOf net.now order.now places.items) (RefusesItem (stands_before order.now) 1 CertFault.OrderBroken order.now) }
+    ensures { Ends result (λ places. ArePlacesOf net.now order.now places.items)
+        (RefusesItem (stands_before order.now) 1 CertFault.OrderBroken order.now) }
 {
     let mut places = no_places(alloc, net.points().len())?;
     for (index, point) in order.iter().enumerate() {
         let place = point.0 as usize;
         if places[place].is_some() {
-            return Err(Stop::Refused(Refusal {
+            return Err(Failure::Refused(RefusedLine {
                 line: index as u64 + 1,
                 why: CertFault::OrderBroken,
             }));
@@ -92,10 +106,10 @@ fn places_of(alloc: Global, net: &Shown, order: &[PointId]) -> Result<Vec<Option
     Ok(places)
 }
 
-/// Room for the places of so many points, of which none has one yet.
+/// The places of so many points, of which none has one yet.
 fn no_places(alloc: Global, count: usize) -> Result<Vec<Option<usize>>, AllocError>
     ensures count { IfOk result (λ places. length places.items ≡ count) }
-    ensures none { IfOk result (λ places. ArePlaces [] places.items) }
+    ensures none { IfOk result (λ places. AreOptionalPlaces [] places.items) }
 {
     vec![in alloc; None; count]
 }

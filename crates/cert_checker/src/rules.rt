@@ -1,20 +1,26 @@
+//! Whether a rule line passes, rule by rule.
+
 ghost use Rattle.std.specs.Prelude.{◌≡◌, pos, ◌+ℤ◌, ◌-ℤ◌, ◌≤ℤ◌, true, OnOk};
 ghost use Rattle.std.specs.Int.{int_max};
 ghost use Rattle.std.specs.List.{All};
 ghost use Rattle.net_model.specs.Network.{IsLink};
 ghost use Rattle.cert_format.specs.JudgementForms.{unless};
-ghost use Rattle.cert_checker.specs.Lines.{at_least, has_label_of, is_negative, may_cross, goes, joins, reaches_back, in_range, bound_passes, link_passes, sum_passes, no_passes, up_passes, back_passes, low_passes, cross_passes, drop_passes, rule_passes, line_passes};
+ghost use Rattle.cert_checker.specs.Lines.{at_least, has_label_of, is_negative, may_cross, goes};
+ghost use Rattle.cert_checker.specs.Lines.{joins, reaches_back, in_range, bound_passes};
+ghost use Rattle.cert_checker.specs.Lines.{link_passes, sum_passes, no_passes, up_passes};
+ghost use Rattle.cert_checker.specs.Lines.{back_passes, low_passes, cross_passes, drop_passes};
+ghost use Rattle.cert_checker.specs.Lines.{rule_passes, line_passes};
 
 use crate::judgement::CertFault;
 use crate::lookup::{bound_of, label_of, line_at, link_named, names_known};
-use crate::shown::Shown;
+use crate::shown::ShownNetwork;
 use cert_format::{CertLine, LineKind};
 use net_model::{Link, MOST_WEIGHT, Name, PointId, Weight};
 
 /// A rule line, by the lines before it.
 #[tactic(auto, unfolding(crate::specs::Lines::line_passes))]
 pub(crate) fn line_passes(
-    net: &Shown,
+    net: &ShownNetwork,
     earlier: &[CertLine],
     line: &CertLine,
 ) -> Result<(), CertFault>
@@ -27,7 +33,7 @@ pub(crate) fn line_passes(
     rule_passes(net, earlier, line)
 }
 
-fn rule_passes(net: &Shown, earlier: &[CertLine], line: &CertLine) -> Result<(), CertFault>
+fn rule_passes(net: &ShownNetwork, earlier: &[CertLine], line: &CertLine) -> Result<(), CertFault>
     requires { All (λ l. in_range l.weight ≡ true) earlier.now }
     ensures { result ≡ rule_passes net.now earlier.now line.now line.now.kind }
 {
@@ -64,7 +70,7 @@ fn at_least(line: &CertLine, least: Weight) -> Result<(), CertFault>
 
 /// The bound rule.
 #[tactic(auto, unfolding(crate::specs::Lines::bound_passes))]
-fn bound_passes(net: &Shown, line: &CertLine, name: &Name) -> Result<(), CertFault>
+fn bound_passes(net: &ShownNetwork, line: &CertLine, name: &Name) -> Result<(), CertFault>
     ensures { result ≡ bound_passes net.now line.now name.now }
 {
     let bound = bound_of(net, name).ok_or(CertFault::UnknownItem)?;
@@ -74,7 +80,7 @@ fn bound_passes(net: &Shown, line: &CertLine, name: &Name) -> Result<(), CertFau
 
 /// The link rule.
 #[tactic(auto, unfolding(crate::specs::Lines::link_passes))]
-fn link_passes(net: &Shown, line: &CertLine, name: &Name) -> Result<(), CertFault>
+fn link_passes(net: &ShownNetwork, line: &CertLine, name: &Name) -> Result<(), CertFault>
     ensures { result ≡ link_passes net.now line.now name.now }
 {
     let link = link_named(net, name).ok_or(CertFault::UnknownItem)?;
@@ -134,7 +140,7 @@ fn up_passes(earlier: &[CertLine], line: &CertLine, i: u64, j: u64) -> Result<()
 /// The ends and the weight of a line that goes over a link and then its premise.
 #[tactic(auto, unfolding(crate::specs::Lines::back_passes))]
 fn back_passes(
-    net: &Shown,
+    net: &ShownNetwork,
     link: &Link,
     second: &CertLine,
     line: &CertLine,
@@ -150,7 +156,7 @@ fn back_passes(
 /// The lower-case rule.
 #[tactic(auto, unfolding(crate::specs::Lines::low_passes))]
 fn low_passes(
-    net: &Shown,
+    net: &ShownNetwork,
     earlier: &[CertLine],
     line: &CertLine,
     name: &Name,
@@ -168,7 +174,7 @@ fn low_passes(
 /// The cross-case rule.
 #[tactic(auto, unfolding(crate::specs::Lines::cross_passes))]
 fn cross_passes(
-    net: &Shown,
+    net: &ShownNetwork,
     earlier: &[CertLine],
     line: &CertLine,
     name: &Name,
@@ -193,7 +199,12 @@ fn without_label(weight: Weight, shortest: Weight) -> Weight
 
 /// The removal of a label.
 #[tactic(auto, unfolding(crate::specs::Lines::drop_passes))]
-fn drop_passes(net: &Shown, earlier: &[CertLine], line: &CertLine, j: u64) -> Result<(), CertFault>
+fn drop_passes(
+    net: &ShownNetwork,
+    earlier: &[CertLine],
+    line: &CertLine,
+    j: u64,
+) -> Result<(), CertFault>
     ensures { result ≡ drop_passes net.now earlier.now line.now j }
 {
     let labelled = line_at(earlier, j).ok_or(CertFault::Premise)?;
@@ -222,7 +233,7 @@ fn may_cross(line: &CertLine, second: &CertLine, name: &Name) -> bool
 }
 
 /// The edge of a line goes from a point to a point.
-fn goes(net: &Shown, line: &CertLine, from: PointId, to: PointId) -> bool
+fn goes(net: &ShownNetwork, line: &CertLine, from: PointId, to: PointId) -> bool
     ensures { result ≡ goes net.now line.now from to }
 {
     net.point(line.from.bytes()) == Some(from) && net.point(line.to.bytes()) == Some(to)
@@ -235,8 +246,9 @@ fn joins(first: &CertLine, second: &CertLine, line: &CertLine) -> bool
     first.from == line.from && first.to == second.from && second.to == line.to
 }
 
-/// A premise begins where a link ends, and a line goes from where the link begins to where the premise ends.
-fn reaches_back(net: &Shown, link: &Link, second: &CertLine, line: &CertLine) -> bool
+/// A premise begins where a link ends, and a line goes from where the link begins to where the
+/// premise ends.
+fn reaches_back(net: &ShownNetwork, link: &Link, second: &CertLine, line: &CertLine) -> bool
     ensures { result ≡ reaches_back net.now link.now second.now line.now }
 {
     net.point(second.from.bytes()) == Some(link.to)

@@ -2,7 +2,8 @@
 
 ghost use Rattle.std.specs.Prelude.{◌≡◌, ◌<◌, length, slice_get, IfSome};
 ghost use Rattle.std.specs.List.{slice_index_or};
-ghost use Rattle.net_model.specs.Network.{IsPlan, IsPoint, IsLink, point_named, bound_named, activation};
+ghost use Rattle.net_model.specs.Network.{IsPlan, IsPoint, IsLink, point_named, bound_named};
+ghost use Rattle.net_model.specs.Network.{activation};
 ghost use Rattle.net_model.specs.NetworkParts.{point_name};
 ghost use Rattle.net_model.specs.ShownForm.{shown_form};
 
@@ -11,11 +12,11 @@ use std::marker::Model;
 
 /// A network as it is shown.
 #[derive(Drop)]
-pub(crate) struct Shown<'a> {
+pub(crate) struct ShownNetwork<'a> {
     stated: &'a Network,
 }
 
-impl<'a> Model for Shown<'a> {
+impl<'a> Model for ShownNetwork<'a> {
     ghost use Rattle.net_model.specs.Network.{Plan};
     ghost use Rattle.net_model.specs.ShownForm.{shown_form};
 
@@ -24,15 +25,16 @@ impl<'a> Model for Shown<'a> {
     ghost view = { λ shown. shown_form shown.stated.now };
 }
 
-impl<'a> Shown<'a> {
+impl<'a> ShownNetwork<'a> {
     /// The shown form of a network.
-    pub(crate) fn of(stated: &'a Network) -> Shown<'a>
+    pub(crate) fn of(stated: &'a Network) -> ShownNetwork<'a>
         ensures { result ≡ shown_form stated.now }
     {
-        Shown { stated }
+        ShownNetwork { stated }
     }
 
-    /// Every network is sound as it is shown. This does nothing: a body calls it where its proof needs the law.
+    /// Every network is sound as it is shown. This does nothing: a body calls it if its proof needs
+    /// the law.
     pub(crate) fn sound(&self)
         ensures { IsPlan self.now }
     {

@@ -6,21 +6,21 @@ use Rattle.net_model.specs.Places.{Form, places_of, DepartsFrom}
 use Rattle.net_model.specs.declared.format.FormatKind.{FormatKind}
 use Rattle.net_model.specs.declared.format.FormatKind.TheVariants.{UnknownWord, NoHeader}
 use Rattle.net_model.proofs.LineLemmas.{departs_by}
-use Rattle.net_model.proofs.ReadingLemmas.{choice}
+use Rattle.net_model.proofs.ReadWordLemmas.{choice}
 use Rattle.cert_format.specs.Keywords.{spelled, keyword_of}
 use Rattle.cert_format.specs.FormFaults.{IsFaultAmong}
 use Rattle.cert_format.specs.LineForms.{form_of}
 use Rattle.cert_format.specs.CertificateLines.{header_line, line_by, line_by_word}
 use Rattle.cert_format.specs.CertificateWords.{header_words}
 use Rattle.cert_format.specs.CertificateGrammar.{admits, IsFaultIn}
-use Rattle.cert_format.specs.CertificateText.{admitted, refused_in, line_in}
+use Rattle.cert_format.specs.CertificateFormat.{admitted, refused_in, line_in}
 use Rattle.cert_format.specs.declared.keyword.Keyword.{Keyword}
 use Rattle.cert_format.specs.declared.read.CertText.{CertText}
 use Rattle.cert_format.specs.declared.read.CertText.TheVariants as text
 use Rattle.cert_format.specs.declared.section.Section.{Section}
 use Rattle.cert_format.specs.declared.section.Section.TheVariants as section
 use Rattle.cert_format.proofs.FormFaultLemmas.{Lines, read_among, among_err}
-use Rattle.cert_format.proofs.SaidLemmas.{keyword_is}
+use Rattle.cert_format.proofs.SpelledLineLemmas.{keyword_is}
 use Rattle.cert_format.proofs.WordLemmas.{keyword_spelled, text_read}
 
 pub header_err : (others : List (List ℕ)) (fault : FormatKind) → header_line others ≡ Err fault → fault ≡ UnknownWord
@@ -32,7 +32,7 @@ header_err (version ∷ []) fault read =
     ]
 header_err (version ∷ next ∷ others) fault read = cc
 
--- what stands after a first word departs from its form where it is refused
+-- what follows a first word departs from its form if it is refused
 pub line_err_by : (form : Option (Form CertText)) (others : List (List ℕ)) (fault : FormatKind) → line_by form others ≡ Err fault → DepartsFrom (places_of form) others fault
 line_err_by None others fault read = header_err others fault read
 line_err_by (Some form) others fault read = departs_by (Some form) others fault read
@@ -67,14 +67,16 @@ no_header line fault read =
     λ same. let wrong : Err fault ≡ Ok text.Header = sym read ∙ ap (line_in section.Header) same ∙ text_read section.Header text.Header refl tt in cc
 
 -- what a line that is not passed over is refused for
-filled_err : (s : Section) (first : List ℕ) (others : List (List ℕ)) (fault : FormatKind) → cond (is_remark first) (Ok text.Blank) (refused_in s (admitted s (keyword_of first) others)) ≡ Err fault → (is_remark first ≡ false) × (refused_in s (admitted s (keyword_of first) others) ≡ Err fault)
+filled_err : (s : Section) (first : List ℕ) (others : List (List ℕ)) (fault : FormatKind) → cond (is_remark first) (Ok text.Blank) (refused_in s (admitted s (keyword_of first) others)) ≡ Err fault
+    → (is_remark first ≡ false) × (refused_in s (admitted s (keyword_of first) others) ≡ Err fault)
 filled_err s first others fault read =
     elim (choice (is_remark first) (Ok text.Blank) (refused_in s (admitted s (keyword_of first) others)) (Err fault) read) [
       | inl remark ↦ absurd (let wrong : Ok text.Blank ≡ Err fault = remark.1 in cc)
       | inr filled ↦ filled
     ]
 
-later_err : (s : Section) (first : List ℕ) (others : List (List ℕ)) (fault : FormatKind) → s ≢ section.Header → cond (is_remark first) (Ok text.Blank) (refused_in s (admitted s (keyword_of first) others)) ≡ Err fault → IsFaultAmong spelled form_of (admits s) (first ∷ others) fault
+later_err : (s : Section) (first : List ℕ) (others : List (List ℕ)) (fault : FormatKind) → s ≢ section.Header → cond (is_remark first) (Ok text.Blank) (refused_in s (admitted s (keyword_of first) others)) ≡ Err fault
+    → IsFaultAmong spelled form_of (admits s) (first ∷ others) fault
 later_err s first others fault after read =
     let filled = filled_err s first others fault read in
     among_err cert_lines (admits s) first others fault filled.0 (admitted_among s (keyword_of first) others fault (refused_err s (admitted s (keyword_of first) others) fault after filled.1))

@@ -1,4 +1,4 @@
--- What stands after the first word of a header: one word, the version.
+-- What follows the first word of a header: one word, the version.
 use Rattle.std.proofs.Common.{◌≡◌, ◌==◌, ℕ, Bool, true, false, cond, List, [], ◌∷◌, length, Ok, Err, refl, ap, codes}
 use Rattle.std.specs.Prelude.{if◌then◌else◌}
 use Rattle.std.specs.Str.{bytes_eq}
@@ -8,9 +8,9 @@ use Rattle.net_model.specs.declared.format.FormatKind.TheVariants.{UnknownWord, 
 use Rattle.cert_format.specs.CertificateLines.{header_line}
 use Rattle.cert_format.specs.StrongLines.{header_line as strong_header_line}
 use Rattle.cert_format.specs.declared.read.CertText.TheVariants as text
-use Rattle.cert_format.specs.declared.strong_read.StrongText.TheVariants as strong
+use Rattle.cert_format.specs.declared.strong_read.StrongTextLine.TheVariants as strong
 
--- where there is one word it is this one
+-- if there is one word it is this one
 one_is : (others : List (List ℕ)) (version : List ℕ) → counted 1 others ≡ Ok (version ∷ []) → others ≡ version ∷ []
 one_is [] version one = absurd (cc)
 one_is (word ∷ []) version one = cc

@@ -8,12 +8,13 @@ use Rattle.std.proofs.lemmas.List.Elements.{recursion_from_All}
 use Rattle.net_model.specs.Names.{is_name}
 use Rattle.texts.specs.Words.{are_passed_over}
 use Rattle.texts.specs.Lines.{lines}
-use Rattle.texts.specs.Printing.{joined}
-use Rattle.texts.proofs.PrintingLemmas.{IsPrintable, IsPrintableLine, words-joined, lines-printed}
-use Rattle.net_model.proofs.SpellingLemmas.{printable_name, printable_natural, printable_integer}
+use Rattle.texts.specs.PrintedLines.{joined}
+use Rattle.texts.proofs.PrintedLineLemmas.{IsPrintable, IsPrintableLine, words-joined, lines-printed}
+use Rattle.net_model.proofs.DecimalSpellingLemmas.{printable_name, printable_natural, printable_integer}
 use Rattle.cert_format.specs.Keywords.{spelled}
-use Rattle.cert_format.specs.CertificateWords.{rule_word, operand_words, label_words, line_words, walk_words, order_words, entry_word, entry_words, header_words, refutation_words, table_words, end_words, certificate_words, printed_certificate, AreOperands, IsSpelledLine, IsSpelledEntry, IsSpelled}
-use Rattle.cert_format.specs.CertificateText.{certificate_text}
+use Rattle.cert_format.specs.CertificateWords.{rule_word, operand_words, label_words, line_words, walk_words, order_words, entry_word, entry_words, header_words, refutation_words, table_words, end_words, certificate_words}
+use Rattle.cert_format.specs.CertificateWords.{printed_certificate, AreOperands, IsSpelledLine, IsSpelledEntry, IsSpelled}
+use Rattle.cert_format.specs.CertificateFormat.{certificate_text}
 use Rattle.cert_format.specs.CertificateGrammar.{filled_words, IsCertificateText}
 use Rattle.cert_format.specs.declared.keyword.Keyword.{Keyword}
 use Rattle.cert_format.specs.declared.keyword.Keyword.TheVariants as keyword
@@ -25,10 +26,23 @@ use Rattle.cert_format.specs.declared.certificate.Certificate.{Certificate}
 use Rattle.cert_format.specs.declared.certificate.Certificate.TheVariants.{Refutation, TableProof}
 use Rattle.cert_format.specs.Limits.{most_written_weight, most_line_number}
 use Rattle.cert_format.proofs.WordLemmas.{no_remark}
-use Rattle.cert_format.proofs.FrontLemmas.{after_two, certificate_front, grammar_read}
+use Rattle.cert_format.proofs.PrefixLemmas.{after_two, certificate_prefix, grammar_read}
 
 printable_keyword : (k : Keyword) → IsPrintable (spelled k)
-printable_keyword keyword.Certificate = record { filled = omega arith; plain = (omega arith, (omega arith, (omega arith, (omega arith, (omega arith, (omega arith, (omega arith, (omega arith, (omega arith, (omega arith, (omega arith, tt))))))))))) }
+printable_keyword keyword.Certificate = record {
+  filled = omega arith;
+  plain = (
+    omega arith,
+    (
+      omega arith,
+      (
+        omega
+            arith,
+        (omega arith, (omega arith, (omega arith, (omega arith, (omega arith, (omega arith, (omega arith, (omega arith, tt)))))))),
+      ),
+    ),
+  );
+}
 printable_keyword keyword.Refutation = record { filled = omega arith; plain = (omega arith, (omega arith, (omega arith, (omega arith, (omega arith, (omega arith, (omega arith, (omega arith, (omega arith, (omega arith, tt)))))))))) }
 printable_keyword keyword.Table = record { filled = omega arith; plain = (omega arith, (omega arith, (omega arith, (omega arith, (omega arith, tt))))) }
 printable_keyword keyword.Bound = record { filled = omega arith; plain = (omega arith, (omega arith, (omega arith, (omega arith, (omega arith, tt))))) }
@@ -54,8 +68,8 @@ pub printable_weight : (w : ℤ) → unsigned_abs w ≤ most_written_weight → 
 printable_weight w within = printable_integer w (omega arith)
 
 both : {A : Type 0} (P : A → Type 0) (xs ys : List A) → AllByRecursion P xs → AllByRecursion P ys → AllByRecursion P (xs ++ ys)
-both P [] ys front back = back
-both P (x ∷ xs) ys front back = (front.0, both P xs ys front.1 back)
+both P [] ys prefix back = back
+both P (x ∷ xs) ys prefix back = (prefix.0, both P xs ys prefix.1 back)
 
 printable_operands : (k : LineKind) → AreOperands k → AllByRecursion IsPrintable (operand_words k)
 printable_operands (kind.Bound name) ops = (printable_name name ops, tt)
@@ -77,7 +91,11 @@ pub record IsWritten (line : List (List ℕ)) : Type 0 where
 
 written_line : (line : CertLine) → IsSpelledLine line → IsWritten (line_words line)
 written_line line spelled = record {
-  printable = (printable_keyword (rule_word line.kind), both IsPrintable (operand_words line.kind) _ (printable_operands line.kind spelled.operands) (printable_name line.from spelled.from, (printable_name line.to spelled.to, both IsPrintable (label_words line.label) _ (printable_label line.label spelled.label) (printable_weight line.weight spelled.weight, tt))));
+  printable = (
+    printable_keyword (rule_word line.kind),
+    both IsPrintable (operand_words line.kind) _ (printable_operands line.kind spelled.operands)
+        (printable_name line.from spelled.from, (printable_name line.to spelled.to, both IsPrintable (label_words line.label) _ (printable_label line.label spelled.label) (printable_weight line.weight spelled.weight, tt))),
+  );
   filled = no_remark (rule_word line.kind) (operand_words line.kind ++ (line.from ∷ line.to ∷ (label_words line.label ++ signed_decimal line.weight ∷ [])));
 }
 
@@ -89,7 +107,14 @@ written_order point named = record { printable = (printable_keyword keyword.Orde
 
 written_entry : (entry : Entry) → IsSpelledEntry entry → IsWritten (entry_words entry)
 written_entry entry spelled = record {
-  printable = (printable_keyword (entry_word entry.label), (printable_name entry.from spelled.from, both IsPrintable (label_words entry.to) _ (printable_label entry.to spelled.to) (both IsPrintable (label_words entry.label) _ (printable_label entry.label spelled.label) (printable_weight entry.weight spelled.weight, tt))));
+  printable = (
+    printable_keyword (entry_word entry.label),
+    (
+      printable_name entry.from spelled.from,
+      both IsPrintable (label_words entry.to) _ (printable_label entry.to spelled.to)
+          (both IsPrintable (label_words entry.label) _ (printable_label entry.label spelled.label) (printable_weight entry.weight spelled.weight, tt)),
+    ),
+  );
   filled = no_remark (entry_word entry.label) (entry.from ∷ (label_words entry.to ++ (label_words entry.label ++ signed_decimal entry.weight ∷ [])));
 }
 
@@ -106,7 +131,8 @@ pub written_end : IsWritten end_words
 written_end = record { printable = (printable_keyword keyword.End, tt); filled = refl }
 
 -- lines of one kind, and more after them
-pub all_more : {A : Type 0} (spell : A → List (List ℕ)) (P : A → Type 0) (xs : List A) (more : List (List (List ℕ))) → ((x : A) → P x → IsWritten (spell x)) → AllByRecursion P xs → AllByRecursion IsWritten more → AllByRecursion IsWritten (map spell xs ++ more)
+pub all_more : {A : Type 0} (spell : A → List (List ℕ)) (P : A → Type 0) (xs : List A) (more : List (List (List ℕ))) → ((x : A) → P x → IsWritten (spell x)) → AllByRecursion P xs → AllByRecursion IsWritten more
+    → AllByRecursion IsWritten (map spell xs ++ more)
 all_more spell P [] more each spelled written = written
 all_more spell P (x ∷ xs) more each spelled written = (each x spelled.0, all_more spell P xs more each spelled.1 written)
 
@@ -135,7 +161,7 @@ printed_by c body same spelled =
     let all : map joined (certificate_words c) ≡ map joined body ++ joined end_words ∷ [] = ap (map joined) (sym same) ∙ map-append joined body (end_words ∷ []) in (
       [],
       record {
-        front = map joined body;
+        prefix = map joined body;
         last = joined end_words;
         whole = lines-printed (certificate_words c) (all_printable (certificate_words c) written) ∙ all;
         said = ap filled_words (sym all) ∙ filled_joined (certificate_words c) written;
@@ -146,9 +172,9 @@ printed_by c body same spelled =
 
 printed_is_text : (c : Certificate) → IsSpelled c → IsCertificateText (printed_certificate c) c
 printed_is_text (Refutation lines walk) spelled =
-    printed_by (Refutation lines walk) (after_two refutation_words (map line_words lines ++ map walk_words walk)) (certificate_front refutation_words (map line_words lines) (map walk_words walk)) spelled
+    printed_by (Refutation lines walk) (after_two refutation_words (map line_words lines ++ map walk_words walk)) (certificate_prefix refutation_words (map line_words lines) (map walk_words walk)) spelled
 printed_is_text (TableProof order entries) spelled =
-    printed_by (TableProof order entries) (after_two table_words (map order_words order ++ map entry_words entries)) (certificate_front table_words (map order_words order) (map entry_words entries)) spelled
+    printed_by (TableProof order entries) (after_two table_words (map order_words order ++ map entry_words entries)) (certificate_prefix table_words (map order_words order) (map entry_words entries)) spelled
 
 -- a printed certificate is read back
 pub printed_read : (c : Certificate) → IsSpelled c → certificate_text (printed_certificate c) ≡ Ok c

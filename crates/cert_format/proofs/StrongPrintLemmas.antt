@@ -4,10 +4,10 @@ use Rattle.std.specs.List.{AllByRecursion}
 use Rattle.std.proofs.lemmas.List.{append-nil, map-append}
 use Rattle.std.proofs.lemmas.List.Elements.{recursion_from_All}
 use Rattle.net_model.specs.Names.{is_name}
-use Rattle.texts.specs.Printing.{joined, printed_line}
+use Rattle.texts.specs.PrintedLines.{joined, printed_line}
 use Rattle.texts.specs.Lines.{lines}
-use Rattle.texts.proofs.PrintingLemmas.{IsPrintable, IsPrintableLine, words-joined, lines-printed}
-use Rattle.net_model.proofs.SpellingLemmas.{printable_name}
+use Rattle.texts.proofs.PrintedLineLemmas.{IsPrintable, IsPrintableLine, words-joined, lines-printed}
+use Rattle.net_model.proofs.DecimalSpellingLemmas.{printable_name}
 use Rattle.cert_format.specs.CertificateWords.{end_words}
 use Rattle.cert_format.specs.CertificateGrammar.{filled_words}
 use Rattle.cert_format.specs.StrongForms.{spelled}
@@ -20,7 +20,7 @@ use Rattle.cert_format.specs.declared.strong_cert.StrongCert.{StrongCert}
 use Rattle.cert_format.specs.declared.strong_cert.StrongLine.{StrongLine}
 use Rattle.cert_format.proofs.PrintLemmas.{all_printed, printed_after}
 use Rattle.cert_format.proofs.RoundTripLemmas.{IsWritten, printable_one, printable_weight, written_end, all_more, all_printable, filled_joined}
-use Rattle.cert_format.proofs.StrongFrontLemmas.{grammar_read}
+use Rattle.cert_format.proofs.StrongPrefixLemmas.{grammar_read}
 
 printable_word : (w : StrongWord) → IsPrintable (spelled w)
 printable_word word.Strong = record { filled = omega arith; plain = (omega arith, (omega arith, (omega arith, (omega arith, (omega arith, (omega arith, tt)))))) }
@@ -63,7 +63,7 @@ printed_is_text cert spelled =
     let all : map joined (strong_words cert) ≡ map joined body ++ joined end_words ∷ [] = ap (map joined) (sym (body_whole cert)) ∙ map-append joined body (end_words ∷ []) in (
       [],
       record {
-        front = map joined body;
+        prefix = map joined body;
         last = joined end_words;
         whole = lines-printed (strong_words cert) (all_printable (strong_words cert) written) ∙ all;
         said = ap filled_words (sym all) ∙ filled_joined (strong_words cert) written;

@@ -6,14 +6,14 @@ use Rattle.net_model.specs.Names.{is_name}
 use Rattle.net_model.specs.Numbers.{natural_of, integer_of}
 use Rattle.texts.specs.Words.{are_passed_over}
 use Rattle.net_model.specs.declared.format.FormatKind.{FormatKind}
-use Rattle.net_model.proofs.SpellingLemmas.{natural_spelled, integer_spelled}
-use Rattle.net_model.proofs.ReadingLemmas.{name_read}
+use Rattle.net_model.proofs.DecimalSpellingLemmas.{natural_spelled, integer_spelled}
+use Rattle.net_model.proofs.ReadWordLemmas.{name_read}
 use Rattle.cert_format.specs.Kind.{has_label}
 use Rattle.cert_format.specs.Keywords.{spelled, keyword_of}
 use Rattle.cert_format.specs.CertificateLines.{line_by_word}
 use Rattle.cert_format.specs.CertificateWords.{rule_word, operand_words, label_words, line_words, walk_words, order_words, entry_word, entry_words, header_words, refutation_words, table_words, end_words, IsSpelledLine, IsSpelledEntry}
 use Rattle.cert_format.specs.CertificateGrammar.{admits}
-use Rattle.cert_format.specs.CertificateText.{line_in}
+use Rattle.cert_format.specs.CertificateFormat.{line_in}
 use Rattle.cert_format.specs.declared.keyword.Keyword.{Keyword}
 use Rattle.cert_format.specs.declared.keyword.Keyword.TheVariants as keyword
 use Rattle.cert_format.specs.declared.kind.LineKind.{LineKind}
@@ -68,14 +68,16 @@ number_read n within = natural_spelled most_line_number n within (omega arith)
 pub weight_read : (w : ℤ) → unsigned_abs w ≤ most_written_weight → integer_of most_written_weight (signed_decimal w) ≡ Ok w
 weight_read w within = integer_spelled most_written_weight w within (omega arith)
 
-relabelled : (kind : LineKind) (from to : List ℕ) (label : Option (List ℕ)) (weight : ℤ) (p q : is_some label ≡ has_label kind) → (let read : Result CertText FormatKind = Ok (text.Line (edge kind from to label weight p)) in read) ≡ Ok (text.Line (edge kind from to label weight q))
+relabelled : (kind : LineKind) (from to : List ℕ) (label : Option (List ℕ)) (weight : ℤ) (p q : is_some label ≡ has_label kind)
+    → (let read : Result CertText FormatKind = Ok (text.Line (edge kind from to label weight p)) in read) ≡ Ok (text.Line (edge kind from to label weight q))
 relabelled kind from to label weight p q = ap (λ (line : CertLine). let read : Result CertText FormatKind = Ok (text.Line line) in read) (same_line kind from to label weight p q)
 
--- what stands after the first word of a rule line
+-- what follows the first word of a rule line
 abbrev pub rule_tail : (kind : LineKind) (from to : List ℕ) (label : Option (List ℕ)) (weight : ℤ) → List (List ℕ)
 rule_tail kind from to label weight = operand_words kind ++ (from ∷ to ∷ (label_words label ++ signed_decimal weight ∷ []))
 
-edge_read : (kind : LineKind) (from to : List ℕ) (label : Option (List ℕ)) (weight : ℤ) (fits : is_some label ≡ has_label kind) → IsSpelledLine (edge kind from to label weight fits) → line_by_word (rule_word kind) (rule_tail kind from to label weight) ≡ Ok (text.Line (edge kind from to label weight fits))
+edge_read : (kind : LineKind) (from to : List ℕ) (label : Option (List ℕ)) (weight : ℤ) (fits : is_some label ≡ has_label kind) → IsSpelledLine (edge kind from to label weight fits)
+    → line_by_word (rule_word kind) (rule_tail kind from to label weight) ≡ Ok (text.Line (edge kind from to label weight fits))
 edge_read (kind.Bound name) from to None weight fits is =
     rw (name_read name is.operands, name_read from is.from, name_read to is.to, weight_read weight is.weight) (relabelled (kind.Bound name) from to None weight refl fits)
 edge_read (kind.Bound name) from to (Some label) weight fits is = absurd (cc)
@@ -98,14 +100,16 @@ edge_read (kind.Drop j) from to None weight fits is =
     rw (number_read j is.operands, name_read from is.from, name_read to is.to, weight_read weight is.weight) (relabelled (kind.Drop j) from to None weight refl fits)
 edge_read (kind.Drop j) from to (Some label) weight fits is = absurd (cc)
 
-reentered : (from : List ℕ) (to label : Option (List ℕ)) (weight : ℤ) (p q : is_none to ≡ is_some label) → (let read : Result CertText FormatKind = Ok (text.Entry (entry_of from to label weight p)) in read) ≡ Ok (text.Entry (entry_of from to label weight q))
+reentered : (from : List ℕ) (to label : Option (List ℕ)) (weight : ℤ) (p q : is_none to ≡ is_some label)
+    → (let read : Result CertText FormatKind = Ok (text.Entry (entry_of from to label weight p)) in read) ≡ Ok (text.Entry (entry_of from to label weight q))
 reentered from to label weight p q = ap (λ (e : Entry). let read : Result CertText FormatKind = Ok (text.Entry e) in read) (same_entry from to label weight p q)
 
--- what stands after the first word of an entry
+-- what follows the first word of an entry
 abbrev pub entry_tail : (from : List ℕ) (to label : Option (List ℕ)) (weight : ℤ) → List (List ℕ)
 entry_tail from to label weight = from ∷ (label_words to ++ (label_words label ++ signed_decimal weight ∷ []))
 
-entry_read : (from : List ℕ) (to label : Option (List ℕ)) (weight : ℤ) (fits : is_none to ≡ is_some label) → IsSpelledEntry (entry_of from to label weight fits) → line_by_word (entry_word label) (entry_tail from to label weight) ≡ Ok (text.Entry (entry_of from to label weight fits))
+entry_read : (from : List ℕ) (to label : Option (List ℕ)) (weight : ℤ) (fits : is_none to ≡ is_some label) → IsSpelledEntry (entry_of from to label weight fits)
+    → line_by_word (entry_word label) (entry_tail from to label weight) ≡ Ok (text.Entry (entry_of from to label weight fits))
 entry_read from (Some to) None weight fits is =
     rw (name_read from is.from, name_read to is.to, weight_read weight is.weight) (reentered from (Some to) None weight refl fits)
 entry_read from None (Some label) weight fits is =
@@ -153,7 +157,7 @@ unfolding line_in
 admitted_read s k others said may read =
     rw (no_remark k others, keyword_spelled k, may, read) refl
 
--- what stands after the first word
+-- what follows the first word
 abbrev pub text_tail : CertText → List (List ℕ)
 text_tail text.Blank = []
 text_tail text.Header = codes "1" ∷ []

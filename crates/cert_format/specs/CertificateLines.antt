@@ -17,7 +17,7 @@ abbrev pub header_line : List (List ℕ) → Result CertText FormatKind
 header_line (version ∷ []) = if bytes_eq version (codes "1") then Ok text.Header else Err UnknownWord
 header_line others = Err UnknownWord
 
--- a line by its form, where it is not the header
+-- a line by its form, if it is not the header
 abbrev pub line_by : Option (Form CertText) → List (List ℕ) → Result CertText FormatKind
 line_by None others = header_line others
 line_by (Some form) others = read_by form others
@@ -27,11 +27,11 @@ abbrev pub line_by_word : Keyword → List (List ℕ) → Result CertText Format
 line_by_word first others = line_by (form_of first) others
 
 -- a line by the word with which it begins
-abbrev pub begun_by : Option Keyword → List (List ℕ) → Result CertText FormatKind
-begun_by None others = Err UnknownWord
-begun_by (Some first) others = line_by_word first others
+abbrev pub line_by_keyword : Option Keyword → List (List ℕ) → Result CertText FormatKind
+line_by_keyword None others = Err UnknownWord
+line_by_keyword (Some first) others = line_by_word first others
 
 -- a line of a certificate, read alone
 unfoldable pub cert_text : List (List ℕ) → Result CertText FormatKind
 cert_text [] = Ok text.Blank
-cert_text (first ∷ others) = if is_remark first then Ok text.Blank else begun_by (keyword_of first) others
+cert_text (first ∷ others) = if is_remark first then Ok text.Blank else line_by_keyword (keyword_of first) others

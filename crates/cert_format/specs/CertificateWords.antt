@@ -3,7 +3,7 @@ use Rattle.std.specs.Prelude.{◌≤◌, ℕ, List, [], ◌∷◌, ◌++◌, map
 use Rattle.std.specs.List.{All}
 use Rattle.std.specs.Fmt.{decimal, signed_decimal}
 use Rattle.net_model.specs.Names.{is_name}
-use Rattle.texts.specs.Printing.{printed}
+use Rattle.texts.specs.PrintedLines.{printed}
 use Rattle.cert_format.specs.Limits.{most_written_weight, most_line_number}
 use Rattle.cert_format.specs.Keywords.{spelled}
 use Rattle.cert_format.specs.declared.keyword.Keyword.{Keyword}
@@ -35,12 +35,12 @@ operand_words (kind.Low name j) = name ∷ decimal j ∷ []
 operand_words (kind.Cross name j) = name ∷ decimal j ∷ []
 operand_words (kind.Drop j) = decimal j ∷ []
 
--- the word of a label, where there is one
+-- the word of a label, if there is one
 abbrev pub label_words : Option (List ℕ) → List (List ℕ)
 label_words None = []
 label_words (Some label) = label ∷ []
 
--- the words of a rule line: its first word, what it names, FROM, TO, LABEL where there is one, and W
+-- the words of a rule line: its first word, what it names, FROM, TO, LABEL if there is one, and W
 abbrev pub line_words : CertLine → List (List ℕ)
 line_words line =
     spelled (rule_word line.kind)
@@ -70,12 +70,15 @@ entry_words entry =
 abbrev pub header_words : List (List ℕ)
 header_words = codes "certificate" ∷ codes "1" ∷ []
 
+-- the words of the second line of a refutation
 abbrev pub refutation_words : List (List ℕ)
 refutation_words = codes "refutation" ∷ []
 
+-- the words of the second line of a table proof
 abbrev pub table_words : List (List ℕ)
 table_words = codes "table" ∷ []
 
+-- the words of the last line
 abbrev pub end_words : List (List ℕ)
 end_words = codes "end" ∷ []
 
@@ -111,6 +114,7 @@ pub record IsSpelledLine (line : CertLine) : Type 0 where
   pub label : IfSome line.label (λ label. IsTrue (is_name label))
   pub weight : HasWrittenWeight line
 
+-- the weight of an entry can be spelled
 abbrev pub IsEntryWeight : Entry → Type 0
 IsEntryWeight entry = unsigned_abs entry.weight ≤ most_written_weight
 

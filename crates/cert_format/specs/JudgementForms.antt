@@ -7,7 +7,7 @@ abbrev pub ◌>>=◌ : {A B E : Type 0} → Result A E → (A → Result B E) �
 (Ok x) >>= next = next x
 (Err why) >>= next = Err why
 
--- a test that must hold, or else this fault
+-- a test that must be true, or else this fault
 abbrev pub unless : {E : Type 0} → Bool → E → Result (Unit {0}) E
 unless true why = Ok tt
 unless false why = Err why

@@ -2,7 +2,8 @@
 use Rattle.std.specs.Prelude.{ℕ, Bool, true, false, List, [], ◌∷◌, Option, codes, find}
 use Rattle.std.specs.Str.{bytes_eq}
 use Rattle.cert_format.specs.declared.keyword.Keyword.{Keyword}
-use Rattle.cert_format.specs.declared.keyword.Keyword.TheVariants.{Certificate, Refutation, Table, Bound, Link, No, Up, Low, Cross, Drop, Walk, Order, Edge, Upper, End}
+use Rattle.cert_format.specs.declared.keyword.Keyword.TheVariants.{Certificate, Refutation, Table, Bound, Link, No, Up, Low, Cross, Drop, Walk, Order, Edge}
+use Rattle.cert_format.specs.declared.keyword.Keyword.TheVariants.{Upper, End}
 
 -- how a first word is written
 abbrev pub spelled : Keyword → List ℕ

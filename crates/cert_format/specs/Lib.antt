@@ -6,7 +6,7 @@ pub mod LineForms
 pub mod CertificateWords
 pub mod CertificateGrammar
 pub mod CertificateLines
-pub mod CertificateText
+pub mod CertificateFormat
 pub mod StrongWords
 pub mod StrongForms
 pub mod StrongGrammar

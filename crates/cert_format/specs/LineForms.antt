@@ -17,8 +17,7 @@ of_line_number = of_natural most_line_number
 abbrev pub of_weight : Place
 of_weight = of_integer most_written_weight
 
--- an edge is told by three words, FROM TO W: where it begins, where it ends, and its weight; an `upper` line has its label in the
--- place of its end
+-- an edge is given by three words, FROM TO W: where it begins, where it ends, and its weight; an `upper` line has its label in the place of its end
 abbrev pub edge_places : List Place
 edge_places = of_name ∷ of_name ∷ of_weight ∷ []
 
@@ -62,10 +61,18 @@ abbrev pub order_form : Form CertText
 order_form = record { places = of_name ∷ []; make = text.Order }
 
 abbrev pub edge_form : Form CertText
-edge_form = record { places = edge_places; make = λ from to weight. text.Entry (record { from = from; to = Some to; label = None; weight = weight; one_end = refl }) }
+edge_form = record {
+  places = edge_places;
+  make = λ from to weight. text.Entry
+      (record { from = from; to = Some to; label = None; weight = weight; one_end = refl });
+}
 
 abbrev pub upper_form : Form CertText
-upper_form = record { places = edge_places; make = λ from label weight. text.Entry (record { from = from; to = None; label = Some label; weight = weight; one_end = refl }) }
+upper_form = record {
+  places = edge_places;
+  make = λ from label weight. text.Entry
+      (record { from = from; to = None; label = Some label; weight = weight; one_end = refl });
+}
 
 abbrev pub lone_form : CertText → Form CertText
 lone_form said = record { places = []; make = said }

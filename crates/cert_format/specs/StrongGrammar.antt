@@ -21,11 +21,11 @@ use Rattle.cert_format.specs.declared.strong_section.StrongSection.{StrongSectio
 use Rattle.cert_format.specs.declared.strong_section.StrongSection.TheVariants as section
 use Rattle.cert_format.specs.declared.strong_cert.StrongCert.{StrongCert}
 use Rattle.cert_format.specs.declared.strong_cert.StrongLine.{StrongLine}
-use Rattle.cert_format.specs.declared.strong_read.StrongText.{StrongText}
-use Rattle.cert_format.specs.declared.strong_read.StrongText.TheVariants as text
+use Rattle.cert_format.specs.declared.strong_read.StrongTextLine.{StrongTextLine}
+use Rattle.cert_format.specs.declared.strong_read.StrongTextLine.TheVariants as text
 
 -- how a line is spelled, by what it says
-abbrev pub AreStrongWordsOf : StrongText → List (List ℕ) → Type 0
+abbrev pub AreStrongWordsOf : StrongTextLine → List (List ℕ) → Type 0
 AreStrongWordsOf text.Blank words = are_passed_over words ≡ true
 AreStrongWordsOf text.Header words = words ≡ header_words
 AreStrongWordsOf (text.By line) words = (words ≡ by_words line) × IsSpelledBy line
@@ -33,16 +33,16 @@ AreStrongWordsOf (text.Ring point) words = (words ≡ ring_words point) × IsTru
 AreStrongWordsOf text.End words = words ≡ end_words
 
 -- a line says this
-abbrev pub IsStrongLine : StrongText → List ℕ → Type 0
+abbrev pub IsStrongLine : StrongTextLine → List ℕ → Type 0
 IsStrongLine said line = AreStrongWordsOf said (words line)
 
--- The lines declare a strong certificate, and these lines stand after it: the lines up to the `end` line are spelled as the
--- certificate is, with blank lines between.
+-- The lines declare a strong certificate, and these lines come after it: the lines up to the `end` line are spelled as the certificate is, with blank lines
+-- between.
 pub record DeclareStrong (all : List (List ℕ)) (cert : StrongCert) (after : List (List ℕ)) : Type 0 where
-  pub front : List (List ℕ)
+  pub prefix : List (List ℕ)
   pub last : List ℕ
-  pub whole : all ≡ front ++ last ∷ after
-  pub said : filled_words (front ++ last ∷ []) ≡ strong_words cert
+  pub whole : all ≡ prefix ++ last ∷ after
+  pub said : filled_words (prefix ++ last ∷ []) ≡ strong_words cert
   pub ends : IsStrongLine text.End last
   pub spelled : IsSpelledStrong cert
 
@@ -52,7 +52,7 @@ IsStrongText bytes cert = (after : List (List ℕ)) × DeclareStrong (lines byte
 
 -- lines that can be continued to a strong certificate
 abbrev pub CanBecomeStrong : List (List ℕ) → Type 0
-CanBecomeStrong front = (more : List (List ℕ)) × (cert : StrongCert) × (after : List (List ℕ)) × DeclareStrong (front ++ more) cert after
+CanBecomeStrong prefix = (more : List (List ℕ)) × (cert : StrongCert) × (after : List (List ℕ)) × DeclareStrong (prefix ++ more) cert after
 
 -- which first words may come in a section
 abbrev pub admits : StrongSection → StrongWord → Bool
@@ -73,35 +73,35 @@ pub record StrongProgress : Type 0 where
   pub ring : List (List ℕ)
 
 -- before the first line
-abbrev pub begun : StrongProgress
-begun = record { section = section.Header; by = []; ring = [] }
+abbrev pub initial : StrongProgress
+initial = record { section = section.Header; by = []; ring = [] }
 
 -- the certificate of which all was read
 abbrev pub strong_of : StrongProgress → StrongCert
 strong_of read = record { by = read.by; ring = read.ring }
 
 -- how the lines are spelled with which a section is reached
-abbrev pub front_words : StrongSection → StrongProgress → List (List (List ℕ))
-front_words section.Header read = []
-front_words section.Lines read = header_words ∷ []
-front_words section.By read = header_words ∷ map by_words read.by
-front_words section.Ring read = header_words ∷ map ring_words read.ring
+abbrev pub prefix_words : StrongSection → StrongProgress → List (List (List ℕ))
+prefix_words section.Header read = []
+prefix_words section.Lines read = header_words ∷ []
+prefix_words section.By read = header_words ∷ map by_words read.by
+prefix_words section.Ring read = header_words ∷ map ring_words read.ring
 
--- what may have been read where a section is reached
-abbrev pub IsReached : StrongSection → StrongProgress → Type 0
-IsReached section.Header read = (read.by ≡ []) × (read.ring ≡ [])
-IsReached section.Lines read = (read.by ≡ []) × (read.ring ≡ [])
-IsReached section.By read = (read.by ≢ []) × (read.ring ≡ [])
-IsReached section.Ring read = (read.by ≡ []) × (read.ring ≢ [])
+-- what may have been read when a section is reached
+abbrev pub IsSectionReached : StrongSection → StrongProgress → Type 0
+IsSectionReached section.Header read = (read.by ≡ []) × (read.ring ≡ [])
+IsSectionReached section.Lines read = (read.by ≡ []) × (read.ring ≡ [])
+IsSectionReached section.By read = (read.by ≢ []) × (read.ring ≡ [])
+IsSectionReached section.Ring read = (read.by ≡ []) × (read.ring ≢ [])
 
 -- what was read can be spelled
 abbrev pub AreSpelled : StrongProgress → Type 0
 AreSpelled read = All IsSpelledBy read.by × All (λ point. IsTrue (is_name point)) read.ring
 
--- the front of a strong certificate: its lines are spelled as what was read of it, with blank lines between
-pub record IsStrongFront (front : List (List ℕ)) (read : StrongProgress) : Type 0 where
-  pub said : filled_words front ≡ front_words read.section read
-  pub reached : IsReached read.section read
+-- the prefix of a strong certificate: its lines are spelled as what was read of it, with blank lines between
+pub record IsStrongPrefix (prefix : List (List ℕ)) (read : StrongProgress) : Type 0 where
+  pub said : filled_words prefix ≡ prefix_words read.section read
+  pub reached : IsSectionReached read.section read
   pub spelled : AreSpelled read
 
 -- the fault of a line in a section
@@ -114,27 +114,27 @@ abbrev pub missing : StrongSection → FormatKind
 missing section.Header = NoHeader
 missing others = NoEnd
 
--- the fault of the lines that are left where a section is reached
+-- the fault of the lines that are left when a section is reached
 abbrev pub IsFaultOfRest : StrongSection → List (List ℕ) → FormatKind → Type 0
 IsFaultOfRest section [] kind = kind ≡ missing section
 IsFaultOfRest section (line ∷ others) kind = IsFaultIn section (words line) kind
 
 -- the first of the lines that are left, or that there is none, excludes a strong certificate
 abbrev pub ExcludesStrong : List (List ℕ) → List (List ℕ) → Type 0
-ExcludesStrong front [] = (cert : StrongCert) (after : List (List ℕ)) → DeclareStrong front cert after → ⊥
-ExcludesStrong front (line ∷ others) = CanBecomeStrong (front ++ line ∷ []) → ⊥
+ExcludesStrong prefix [] = (cert : StrongCert) (after : List (List ℕ)) → DeclareStrong prefix cert after → ⊥
+ExcludesStrong prefix (line ∷ others) = CanBecomeStrong (prefix ++ line ∷ []) → ⊥
 
 -- The first fault of lines: those before it can be continued to a strong certificate, with its line they cannot, and its kind
 -- is how that line first departs from what may come there, or that the text ends.
 pub record IsFirstStrongFault (all : List (List ℕ)) (fault : FormatFault) : Type 0 where
-  pub front : List (List ℕ)
+  pub prefix : List (List ℕ)
   pub rest : List (List ℕ)
   pub read : StrongProgress
-  pub whole : all ≡ front ++ rest
-  pub place : fault.line ≡ length front + 1
-  pub possible : CanBecomeStrong front
-  pub refused : ExcludesStrong front rest
-  pub reached : IsStrongFront front read
+  pub whole : all ≡ prefix ++ rest
+  pub place : fault.line ≡ length prefix + 1
+  pub possible : CanBecomeStrong prefix
+  pub refused : ExcludesStrong prefix rest
+  pub reached : IsStrongPrefix prefix read
   pub departs : IsFaultOfRest read.section rest fault.kind
 
 -- the fault of an answer is the first one of a text

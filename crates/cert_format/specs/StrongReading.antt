@@ -8,16 +8,16 @@ use Rattle.net_model.specs.declared.format.WordFault.{WordFault}
 use Rattle.net_model.specs.declared.format.WordFault.TheVariants as word
 use Rattle.net_model.specs.declared.format.TextFault.{TextFault}
 use Rattle.net_model.specs.declared.format.TextFault.TheVariants as whole
-use Rattle.cert_format.specs.CertificateText.{fault_after}
-use Rattle.cert_format.specs.StrongGrammar.{StrongProgress, DeclareStrong, IsFirstStrongFault, IsStrongFront, IsStrongLine, begun, strong_of, missing}
+use Rattle.cert_format.specs.CertificateFormat.{fault_after}
+use Rattle.cert_format.specs.StrongGrammar.{StrongProgress, DeclareStrong, IsFirstStrongFault, IsStrongPrefix, IsStrongLine, initial, strong_of, missing}
 use Rattle.cert_format.specs.StrongLines.{line_in}
 use Rattle.cert_format.specs.declared.strong_section.StrongSection.TheVariants as section
-use Rattle.cert_format.specs.declared.strong_read.StrongText.{StrongText}
-use Rattle.cert_format.specs.declared.strong_read.StrongText.TheVariants as text
+use Rattle.cert_format.specs.declared.strong_read.StrongTextLine.{StrongTextLine}
+use Rattle.cert_format.specs.declared.strong_read.StrongTextLine.TheVariants as text
 use Rattle.cert_format.specs.declared.strong_cert.StrongCert.{StrongCert}
 
 -- what was read, with one line more
-abbrev pub advanced : StrongProgress → StrongText → StrongProgress
+abbrev pub advanced : StrongProgress → StrongTextLine → StrongProgress
 advanced read text.Blank = read
 advanced read text.Header = record read { section = section.Lines }
 advanced read (text.By line) = record read { section = section.By; by = read.by ++ line ∷ [] }
@@ -29,11 +29,13 @@ pub record DeclaredStrong : Type 0 where
   pub cert : StrongCert
   pub after : List (List ℕ)
 
+-- the fault of the line of a number
 abbrev pub fault_at : ℕ → FormatKind → Result DeclaredStrong FormatFault
 fault_at number kind = Err (record { line = number; kind = kind })
 
 -- what is read from a line on, by its number, what it says, the lines after it, and what is read of those
-abbrev pub said_from : StrongProgress → ℕ → Result StrongText FormatKind → List (List ℕ) → (StrongProgress → Result DeclaredStrong FormatFault) → Result DeclaredStrong FormatFault
+abbrev pub said_from : StrongProgress → ℕ → Result StrongTextLine FormatKind → List (List ℕ) → (StrongProgress → Result DeclaredStrong FormatFault)
+    → Result DeclaredStrong FormatFault
 said_from read number (Ok text.End) others next = Ok (record { cert = strong_of read; after = others })
 said_from read number (Ok said) others next = next (advanced read said)
 said_from read number (Err kind) others next = fault_at number kind
@@ -50,10 +52,10 @@ cert_part (Err fault) = Err fault
 
 -- what is read of a text, or its first fault
 unfoldable pub strong_text : List ℕ → Result StrongCert FormatFault
-strong_text bytes = cert_part (read_from begun 1 (lines bytes))
+strong_text bytes = cert_part (read_from initial 1 (lines bytes))
 
 -- the answer is what the line says, unless memory ran out
-abbrev pub SaysStrongLine : Result StrongText WordFault → Result StrongText FormatKind → Type 0
+abbrev pub SaysStrongLine : Result StrongTextLine WordFault → Result StrongTextLine FormatKind → Type 0
 SaysStrongLine (Ok said) read = read ≡ Ok said
 SaysStrongLine (Err (word.Kind kind)) read = read ≡ Err kind
 SaysStrongLine (Err word.OutOfMemory) read = Unit {0}
@@ -64,10 +66,10 @@ SaysStrongText (Ok cert) read = read ≡ Ok cert
 SaysStrongText (Err (whole.Format fault)) read = read ≡ Err fault
 SaysStrongText (Err whole.OutOfMemory) read = Unit {0}
 
--- what a line brings after the front of a strong certificate, whatever lines come after it: the certificate, more of its front,
--- or the first fault, unless memory ran out
-abbrev pub StrongBrings : List (List ℕ) → List ℕ → Result StrongText WordFault → StrongProgress → Type 0
-StrongBrings front line (Ok text.End) read = (after : List (List ℕ)) → DeclareStrong (front ++ line ∷ after) (strong_of read) after
-StrongBrings front line (Ok said) read = IsStrongLine said line × IsStrongFront (front ++ line ∷ []) read
-StrongBrings front line (Err (word.Kind kind)) read = (after : List (List ℕ)) → IsFirstStrongFault (front ++ line ∷ after) (fault_after front kind)
-StrongBrings front line (Err word.OutOfMemory) read = Unit {0}
+-- what a line brings after the prefix of a strong certificate, whatever lines come after it: the certificate, a longer prefix, or the first fault, unless
+-- memory ran out
+abbrev pub StrongBrings : List (List ℕ) → List ℕ → Result StrongTextLine WordFault → StrongProgress → Type 0
+StrongBrings prefix line (Ok text.End) read = (after : List (List ℕ)) → DeclareStrong (prefix ++ line ∷ after) (strong_of read) after
+StrongBrings prefix line (Ok said) read = IsStrongLine said line × IsStrongPrefix (prefix ++ line ∷ []) read
+StrongBrings prefix line (Err (word.Kind kind)) read = (after : List (List ℕ)) → IsFirstStrongFault (prefix ++ line ∷ after) (fault_after prefix kind)
+StrongBrings prefix line (Err word.OutOfMemory) read = Unit {0}

@@ -2,7 +2,7 @@
 use Rattle.std.specs.Prelude.{◌≡◌, ◌⊎◌, ℕ, ◌≤◌, unsigned_abs, IsTrue, List, [], ◌∷◌, ◌++◌, map, codes}
 use Rattle.std.specs.List.{All}
 use Rattle.std.specs.Fmt.{signed_decimal}
-use Rattle.texts.specs.Printing.{printed}
+use Rattle.texts.specs.PrintedLines.{printed}
 use Rattle.net_model.specs.Names.{is_name}
 use Rattle.cert_format.specs.Limits.{most_written_weight}
 use Rattle.cert_format.specs.CertificateWords.{end_words}

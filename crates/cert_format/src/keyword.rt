@@ -1,3 +1,5 @@
+//! The first words of the lines of a certificate.
+
 ghost use Rattle.std.specs.Prelude.{◌≡◌};
 
 /// The first word of a line of a certificate.
@@ -64,7 +66,7 @@ impl Keyword {
         }
     }
 
-    /// The first word that a word is, or `None` where it is none of them.
+    /// The first word that a word is, or `None` if it is none of them.
     pub(crate) fn of(word: &[u8]) -> Option<Keyword>
         ensures { result ≡ keyword_of word.now }
     {

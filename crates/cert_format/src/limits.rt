@@ -10,7 +10,7 @@ pub const MOST_WRITTEN_WEIGHT: u64 = 999_999_999_999_999_999;
 pub const MOST_LINE_NUMBER: u64 = u64::MAX;
 
 /// The limits of the code are those of the definitions.
-pub fn limits_are_defined()
+pub fn law_limits_are_defined()
     ensures weight { MOST_WRITTEN_WEIGHT ≡ most_written_weight }
     ensures line_number { MOST_LINE_NUMBER ≡ most_line_number }
 {}

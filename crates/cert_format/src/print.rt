@@ -4,10 +4,14 @@ ghost use Rattle.std.specs.Prelude.{◌≡◌, ◌++◌, [], ◌≤◌, OnOk, If
 ghost use Rattle.std.specs.List.{flat_map};
 ghost use Rattle.std.specs.Fmt.{decimal};
 ghost use Rattle.net_model.specs.Names.{is_name};
-ghost use Rattle.texts.specs.Printing.{after_blank, printed_line};
+ghost use Rattle.texts.specs.PrintedLines.{after_blank, printed_line};
 ghost use Rattle.cert_format.specs.Limits.{most_line_number};
-ghost use Rattle.cert_format.specs.CertificateText.{certificate_text};
-ghost use Rattle.cert_format.specs.CertificateWords.{rule_word, operand_words, label_words, line_words, walk_words, entry_word, entry_words, order_words, printed_certificate, IsEntryWeight, IsSpelledEntry, AreOperands, HasWrittenWeight, IsSpelledLine, HasWeights};
+ghost use Rattle.cert_format.specs.CertificateFormat.{certificate_text};
+ghost use Rattle.cert_format.specs.CertificateWords.{rule_word, operand_words, label_words};
+ghost use Rattle.cert_format.specs.CertificateWords.{line_words, walk_words, entry_word};
+ghost use Rattle.cert_format.specs.CertificateWords.{entry_words, order_words, printed_certificate};
+ghost use Rattle.cert_format.specs.CertificateWords.{IsEntryWeight, IsSpelledEntry, AreOperands};
+ghost use Rattle.cert_format.specs.CertificateWords.{HasWrittenWeight, IsSpelledLine, HasWeights};
 
 use crate::certificate::Certificate;
 use crate::entry::Entry;
@@ -18,9 +22,10 @@ use net_model::Name;
 use std::alloc::{AllocError, Global};
 use texts::push_line;
 
-/// The text of a certificate: the header, `refutation`, the rule lines and the walk in their order, and `end`, or the header, `table`, the
-/// order, the entries and `end`, with one blank between words and a line end after each line. Each weight must be below 10^18 in size. It
-/// reads back to the same certificate. `AllocError` comes only for want of memory.
+/// The text of a certificate: the header, `refutation`, the rule lines and the walk in their order,
+/// and `end`, or the header, `table`, the order, the entries and `end`, with one blank between
+/// words and a line end after each line. Each weight must be below 10^18 in size. It reads back to
+/// the same certificate. `AllocError` comes only for want of memory.
 pub fn print_certificate(alloc: Global, certificate: &Certificate) -> Result<Vec<u8>, AllocError>
     requires { HasWeights certificate.now }
     ensures text { IfOk result (λ text. text.items ≡ printed_certificate certificate.now) }
@@ -38,8 +43,10 @@ pub fn print_certificate(alloc: Global, certificate: &Certificate) -> Result<Vec
 
 fn print_refutation(alloc: Global, lines: &[CertLine], walk: &[u64]) -> Result<Vec<u8>, AllocError>
     requires { All HasWrittenWeight lines.now }
-    ensures text { IfOk result (λ text. text.items ≡ printed_certificate (Certificate.Refutation lines.now walk.now)) }
-    ensures back { IfOk result (λ text. certificate_text text.items ≡ Ok (Certificate.Refutation lines.now walk.now)) }
+    ensures text { IfOk result (λ text. text.items ≡ printed_certificate
+        (Certificate.Refutation lines.now walk.now)) }
+    ensures back { IfOk result (λ text. certificate_text text.items ≡ Ok
+        (Certificate.Refutation lines.now walk.now)) }
 {
     let mut out = Vec::new(alloc);
     push_line(&mut out, b"certificate", &[b"1".as_slice()])?;
@@ -52,8 +59,10 @@ fn print_refutation(alloc: Global, lines: &[CertLine], walk: &[u64]) -> Result<V
 
 fn print_table(alloc: Global, order: &[Name], entries: &[Entry]) -> Result<Vec<u8>, AllocError>
     requires { All IsEntryWeight entries.now }
-    ensures text { IfOk result (λ text. text.items ≡ printed_certificate (Certificate.TableProof order.now entries.now)) }
-    ensures back { IfOk result (λ text. certificate_text text.items ≡ Ok (Certificate.TableProof order.now entries.now)) }
+    ensures text { IfOk result (λ text. text.items ≡ printed_certificate
+        (Certificate.TableProof order.now entries.now)) }
+    ensures back { IfOk result (λ text. certificate_text text.items ≡ Ok
+        (Certificate.TableProof order.now entries.now)) }
 {
     let mut out = Vec::new(alloc);
     push_line(&mut out, b"certificate", &[b"1".as_slice()])?;
@@ -65,7 +74,8 @@ fn print_table(alloc: Global, order: &[Name], entries: &[Entry]) -> Result<Vec<u
 }
 
 fn push_order(out: &mut Vec<u8>, order: &[Name]) -> Result<(), AllocError>
-    ensures text { OnOk result (out.new.items ≡ out.old.items ++ flat_map (λ point. printed_line (order_words point)) order.now) }
+    ensures text { OnOk result (out.new.items ≡ out.old.items ++ flat_map
+        (λ point. printed_line (order_words point)) order.now) }
     ensures spelled { OnOk result (All (λ point. IsTrue (is_name point)) order.now) }
 {
     for point in order {
@@ -76,7 +86,8 @@ fn push_order(out: &mut Vec<u8>, order: &[Name]) -> Result<(), AllocError>
 
 fn push_entries(alloc: Global, out: &mut Vec<u8>, entries: &[Entry]) -> Result<(), AllocError>
     requires { All IsEntryWeight entries.now }
-    ensures text { OnOk result (out.new.items ≡ out.old.items ++ flat_map (λ entry. printed_line (entry_words entry)) entries.now) }
+    ensures text { OnOk result (out.new.items ≡ out.old.items ++ flat_map
+        (λ entry. printed_line (entry_words entry)) entries.now) }
     ensures spelled { OnOk result (All IsSpelledEntry entries.now) }
 {
     for entry in entries {
@@ -87,7 +98,8 @@ fn push_entries(alloc: Global, out: &mut Vec<u8>, entries: &[Entry]) -> Result<(
 
 fn push_entry(alloc: Global, out: &mut Vec<u8>, entry: &Entry) -> Result<(), AllocError>
     requires { IsEntryWeight entry.now }
-    ensures text { OnOk result (out.new.items ≡ out.old.items ++ printed_line (entry_words entry.now)) }
+    ensures text { OnOk result (out.new.items ≡ out.old.items ++ printed_line
+        (entry_words entry.now)) }
     ensures spelled { OnOk result (IsSpelledEntry entry.now) }
 {
     out.extend_from_slice(entry_word(&entry.label).spelled())?;
@@ -111,7 +123,8 @@ fn entry_word(label: &Option<Name>) -> Keyword
 
 fn push_rules(alloc: Global, out: &mut Vec<u8>, lines: &[CertLine]) -> Result<(), AllocError>
     requires { All HasWrittenWeight lines.now }
-    ensures text { OnOk result (out.new.items ≡ out.old.items ++ flat_map (λ line. printed_line (line_words line)) lines.now) }
+    ensures text { OnOk result (out.new.items ≡ out.old.items ++ flat_map
+        (λ line. printed_line (line_words line)) lines.now) }
     ensures spelled { OnOk result (All IsSpelledLine lines.now) }
 {
     for line in lines {
@@ -122,7 +135,8 @@ fn push_rules(alloc: Global, out: &mut Vec<u8>, lines: &[CertLine]) -> Result<()
 
 fn push_rule(alloc: Global, out: &mut Vec<u8>, line: &CertLine) -> Result<(), AllocError>
     requires { HasWrittenWeight line.now }
-    ensures text { OnOk result (out.new.items ≡ out.old.items ++ printed_line (line_words line.now)) }
+    ensures text { OnOk result (out.new.items ≡ out.old.items ++ printed_line
+        (line_words line.now)) }
     ensures spelled { OnOk result (IsSpelledLine line.now) }
 {
     out.extend_from_slice(rule_word(&line.kind).spelled())?;
@@ -151,7 +165,8 @@ fn rule_word(kind: &LineKind) -> Keyword
 }
 
 fn push_operands(alloc: Global, out: &mut Vec<u8>, kind: &LineKind) -> Result<(), AllocError>
-    ensures text { OnOk result (out.new.items ≡ out.old.items ++ flat_map after_blank (operand_words kind.now)) }
+    ensures text { OnOk result (out.new.items ≡ out.old.items ++ flat_map after_blank
+        (operand_words kind.now)) }
     ensures spelled { OnOk result (AreOperands kind.now) }
 {
     match kind {
@@ -168,9 +183,10 @@ fn push_operands(alloc: Global, out: &mut Vec<u8>, kind: &LineKind) -> Result<()
     }
 }
 
-/// One blank and a name, where there is one.
+/// One blank and a name, if there is one.
 fn push_label(out: &mut Vec<u8>, label: &Option<Name>) -> Result<(), AllocError>
-    ensures text { OnOk result (out.new.items ≡ out.old.items ++ flat_map after_blank (label_words label.now)) }
+    ensures text { OnOk result (out.new.items ≡ out.old.items ++ flat_map after_blank
+        (label_words label.now)) }
     ensures spelled { OnOk result (IfSome label.now (λ label. IsTrue (is_name label))) }
 {
     match label {
@@ -180,7 +196,8 @@ fn push_label(out: &mut Vec<u8>, label: &Option<Name>) -> Result<(), AllocError>
 }
 
 fn push_walk(alloc: Global, out: &mut Vec<u8>, walk: &[u64]) -> Result<(), AllocError>
-    ensures text { OnOk result (out.new.items ≡ out.old.items ++ flat_map (λ i. printed_line (walk_words i)) walk.now) }
+    ensures text { OnOk result (out.new.items ≡ out.old.items ++ flat_map
+        (λ i. printed_line (walk_words i)) walk.now) }
     ensures spelled { OnOk result (All (λ i. i ≤ most_line_number) walk.now) }
 {
     for number in walk {

@@ -7,10 +7,13 @@ ghost use Rattle.net_model.specs.Numbers.{natural_of, integer_of};
 ghost use Rattle.texts.specs.Words.{words};
 ghost use Rattle.cert_format.specs.Kind.{has_label};
 ghost use Rattle.cert_format.specs.declared.read.CertText.{CertText};
-ghost use Rattle.cert_format.specs.CertificateGrammar.{IsFaultAlone, IsLine};
+ghost use Rattle.cert_format.specs.CertificateGrammar.{IsCertificateFaultAlone, IsCertificateLine};
 ghost use Rattle.cert_format.specs.CertificateLines.{cert_text, line_by_word, header_line};
 ghost use Rattle.cert_format.specs.Limits.{most_written_weight, most_line_number};
-ghost use Rattle.cert_format.specs.LineForms.{edge_places, labelled_places, unlabelled, labelled, lone_form, walk_form, order_form, edge_form, upper_form, bound_form, link_form, no_form, up_form, low_form, cross_form, drop_form};
+ghost use Rattle.cert_format.specs.LineForms.{edge_places, labelled_places, unlabelled, labelled};
+ghost use Rattle.cert_format.specs.LineForms.{lone_form, walk_form, order_form, edge_form};
+ghost use Rattle.cert_format.specs.LineForms.{upper_form, bound_form, link_form, no_form, up_form};
+ghost use Rattle.cert_format.specs.LineForms.{low_form, cross_form, drop_form};
 
 use crate::entry::Entry;
 use crate::keyword::Keyword;
@@ -42,20 +45,23 @@ pub enum CertText {
     End,
 }
 
-/// Reads one line of a certificate, alone. The fault is the first one: `UnknownWord` of the first word, `WordCount`,
-/// and then `BadName`, `BadNumber` or `NumberLimit` of the words from left to right. A line whose first word is
-/// `certificate` is the header `certificate 1` or `UnknownWord`. It takes no memory, so `OutOfMemory` never comes.
+/// Reads one line of a certificate, alone. The fault is the first one: `UnknownWord` of the first
+/// word, `WordCount`, and then `BadName`, `BadNumber` or `NumberLimit` of the words from left to
+/// right. A line whose first word is `certificate` is the header `certificate 1` or `UnknownWord`.
+/// It takes no memory, so `OutOfMemory` never comes.
 pub fn read_cert_line(line: &[u8]) -> Result<CertText, WordFault>
-    ensures reads { result ≡ result_map_both (λ read. read) (λ kind. WordFault.Kind kind) (cert_text (words line.now)) }
-    ensures grammar { IfOk result (λ read. IsLine read line.now) }
-    ensures every { (read : CertText) → IsLine read line.now → result ≡ Ok read }
-    ensures fault { IfErr result (IsFaultAlone line.now) }
+    ensures reads { result ≡ result_map_both (λ read. read) (λ kind. WordFault.Kind kind)
+        (cert_text (words line.now)) }
+    ensures grammar { IfOk result (λ read. IsCertificateLine read line.now) }
+    ensures every { (read : CertText) → IsCertificateLine read line.now → result ≡ Ok read }
+    ensures fault { IfErr result (IsCertificateFaultAlone line.now) }
 {
     read_alone(line)
 }
 
 fn read_alone(line: &[u8]) -> Result<CertText, WordFault>
-    ensures { result ≡ result_map_both (λ read. read) (λ kind. WordFault.Kind kind) (cert_text (words line.now)) }
+    ensures { result ≡ result_map_both (λ read. read) (λ kind. WordFault.Kind kind)
+        (cert_text (words line.now)) }
 {
     Ok(cert_text(line)?)
 }
@@ -74,7 +80,7 @@ pub(crate) fn cert_text(line: &[u8]) -> Result<CertText, FormatKind>
     }
 }
 
-/// What stands after the first word of a line.
+/// The words after the first word of a line.
 pub(crate) fn line_of(keyword: Keyword, rest: &[u8]) -> Result<CertText, FormatKind>
     ensures { result ≡ line_by_word keyword (words rest.now) }
 {
@@ -97,7 +103,7 @@ pub(crate) fn line_of(keyword: Keyword, rest: &[u8]) -> Result<CertText, FormatK
     }
 }
 
-/// What stands after `certificate`.
+/// The words after `certificate`.
 #[tactic(auto, using(crate::proofs::HeaderLemmas::header_of, crate::proofs::HeaderLemmas::no_header))]
 fn header_line(rest: &[u8]) -> Result<CertText, FormatKind>
     ensures { result ≡ header_line (words rest.now) }
@@ -119,7 +125,7 @@ fn lone_word(said: CertText, rest: &[u8]) -> Result<CertText, FormatKind>
     Ok(said)
 }
 
-/// What stands after `walk`.
+/// The words after `walk`.
 fn walk_line(rest: &[u8]) -> Result<CertText, FormatKind>
     ensures { result ≡ read_by walk_form (words rest.now) }
 {
@@ -127,7 +133,7 @@ fn walk_line(rest: &[u8]) -> Result<CertText, FormatKind>
     Ok(CertText::Walk(number(first)?))
 }
 
-/// What stands after `order`.
+/// The words after `order`.
 fn order_line(rest: &[u8]) -> Result<CertText, FormatKind>
     ensures { result ≡ read_by order_form (words rest.now) }
 {
@@ -135,7 +141,7 @@ fn order_line(rest: &[u8]) -> Result<CertText, FormatKind>
     Ok(CertText::Order(text::name(point)?))
 }
 
-/// What stands after `edge`.
+/// The words after `edge`.
 fn edge_line(rest: &[u8]) -> Result<CertText, FormatKind>
     ensures { result ≡ read_by edge_form (words rest.now) }
 {
@@ -155,7 +161,7 @@ fn edge_entry(from: &[u8], to: &[u8], weight: &[u8]) -> Result<CertText, FormatK
     }))
 }
 
-/// What stands after `upper`.
+/// The words after `upper`.
 fn upper_line(rest: &[u8]) -> Result<CertText, FormatKind>
     ensures { result ≡ read_by upper_form (words rest.now) }
 {
@@ -165,7 +171,8 @@ fn upper_line(rest: &[u8]) -> Result<CertText, FormatKind>
 
 /// An entry with a label.
 fn upper_entry(from: &[u8], label: &[u8], weight: &[u8]) -> Result<CertText, FormatKind>
-    ensures { result ≡ words_at edge_places upper_form.make (from.now ∷ label.now ∷ weight.now ∷ []) }
+    ensures { result ≡ words_at edge_places upper_form.make
+        (from.now ∷ label.now ∷ weight.now ∷ []) }
 {
     Ok(CertText::Entry(Entry {
         from: text::name(from)?,
@@ -175,7 +182,7 @@ fn upper_entry(from: &[u8], label: &[u8], weight: &[u8]) -> Result<CertText, For
     }))
 }
 
-/// What stands after `bound`.
+/// The words after `bound`.
 fn bound_line(rest: &[u8]) -> Result<CertText, FormatKind>
     ensures { result ≡ read_by bound_form (words rest.now) }
 {
@@ -184,7 +191,7 @@ fn bound_line(rest: &[u8]) -> Result<CertText, FormatKind>
     unlabelled(kind, from, to, weight)
 }
 
-/// What stands after `link`.
+/// The words after `link`.
 fn link_line(rest: &[u8]) -> Result<CertText, FormatKind>
     ensures { result ≡ read_by link_form (words rest.now) }
 {
@@ -193,7 +200,7 @@ fn link_line(rest: &[u8]) -> Result<CertText, FormatKind>
     unlabelled(kind, from, to, weight)
 }
 
-/// What stands after `no`.
+/// The words after `no`.
 fn no_line(rest: &[u8]) -> Result<CertText, FormatKind>
     ensures { result ≡ read_by no_form (words rest.now) }
 {
@@ -202,7 +209,7 @@ fn no_line(rest: &[u8]) -> Result<CertText, FormatKind>
     unlabelled(kind, from, to, weight)
 }
 
-/// What stands after `up`.
+/// The words after `up`.
 fn up_line(rest: &[u8]) -> Result<CertText, FormatKind>
     ensures { result ≡ read_by up_form (words rest.now) }
 {
@@ -211,7 +218,7 @@ fn up_line(rest: &[u8]) -> Result<CertText, FormatKind>
     labelled(kind, from, to, label, weight)
 }
 
-/// What stands after `low`.
+/// The words after `low`.
 fn low_line(rest: &[u8]) -> Result<CertText, FormatKind>
     ensures { result ≡ read_by low_form (words rest.now) }
 {
@@ -220,7 +227,7 @@ fn low_line(rest: &[u8]) -> Result<CertText, FormatKind>
     unlabelled(kind, from, to, weight)
 }
 
-/// What stands after `cross`.
+/// The words after `cross`.
 fn cross_line(rest: &[u8]) -> Result<CertText, FormatKind>
     ensures { result ≡ read_by cross_form (words rest.now) }
 {
@@ -229,7 +236,7 @@ fn cross_line(rest: &[u8]) -> Result<CertText, FormatKind>
     labelled(kind, from, to, label, weight)
 }
 
-/// What stands after `drop`.
+/// The words after `drop`.
 fn drop_line(rest: &[u8]) -> Result<CertText, FormatKind>
     ensures { result ≡ read_by drop_form (words rest.now) }
 {
@@ -241,7 +248,9 @@ fn drop_line(rest: &[u8]) -> Result<CertText, FormatKind>
 /// The end of a rule line whose edge has no label.
 fn unlabelled(kind: LineKind, from: &[u8], to: &[u8], weight: &[u8]) -> Result<CertText, FormatKind>
     requires { false ≡ has_label kind }
-    ensures { (none : false ≡ has_label kind) → result ≡ words_at edge_places (unlabelled kind none) (from.now ∷ to.now ∷ weight.now ∷ []) }
+    ensures { (none : false ≡ has_label kind)
+        → result ≡ words_at edge_places (unlabelled kind none)
+        (from.now ∷ to.now ∷ weight.now ∷ []) }
 {
     Ok(CertText::Line(CertLine {
         kind,
@@ -261,7 +270,9 @@ fn labelled(
     weight: &[u8],
 ) -> Result<CertText, FormatKind>
     requires { true ≡ has_label kind }
-    ensures { (one : true ≡ has_label kind) → result ≡ words_at labelled_places (labelled kind one) (from.now ∷ to.now ∷ label.now ∷ weight.now ∷ []) }
+    ensures { (one : true ≡ has_label kind)
+        → result ≡ words_at labelled_places (labelled kind one)
+        (from.now ∷ to.now ∷ label.now ∷ weight.now ∷ []) }
 {
     Ok(CertText::Line(CertLine {
         kind,

@@ -5,15 +5,22 @@ ghost use Rattle.std.specs.Prelude.{◌≡◌, ◌++◌, ◌∷◌, [], OnOk, On
 use crate::certificate::Certificate;
 use crate::entry::Entry;
 use crate::line::CertLine;
-use crate::placed::line_in;
 use crate::read::CertText;
 use crate::section::Section;
+use crate::section_line::line_in;
 use net_model::{FormatKind, Items, Name, WordFault};
 use std::alloc::{AllocError, Global};
 use std::marker::Model;
 
-/// A certificate of which lines are read one after another. Contracts see it as what was read: the section that is
-/// reached, the rule lines and the walk lines of a refutation, and the order and the entries of a table proof.
+/// A certificate of which lines are read one after another. Contracts see it as what was read: the
+/// section that is reached, the rule lines and the walk lines of a refutation, and the order and
+/// the entries of a table proof.
+///
+/// A command that reads a certificate from its input begins with `new`, gives each line to
+/// `read_line`, and answers `missing` when the input ends. Clauses `prefix` of `new`, `brings` of
+/// `read_line` and `fault` of `missing` then say of the lines that came that they declare a
+/// certificate (`DeclareCertificate`) or have a first fault (`IsFirstCertificateFault`); by
+/// `law_lines_have_one_reading` just one of the two holds, and of one value.
 #[derive(Debug, Drop)]
 pub struct CertReader {
     section: Section,
@@ -24,23 +31,32 @@ pub struct CertReader {
 }
 
 impl Model for CertReader {
-    ghost use Rattle.cert_format.specs.CertificateGrammar.{Progress};
+    ghost use Rattle.cert_format.specs.CertificateGrammar.{CertificateProgress};
 
-    ghost Value = { Progress };
+    ghost Value = { CertificateProgress };
 
-    ghost view = { λ r. record { section = r.section; lines = r.lines.items; walk = r.walk.items; order = r.order.items; entries = r.entries.items } };
+    ghost view = { λ r. record {
+      section = r.section;
+      lines = r.lines.items;
+      walk = r.walk.items;
+      order = r.order.items;
+      entries = r.entries.items;
+    } };
 }
 
 impl CertReader {
     ghost use Rattle.std.specs.Prelude.{◌≡◌, ℕ, List, [], IfOk, OnOk, OnErr};
     ghost use Rattle.texts.specs.Words.{words};
-    ghost use Rattle.cert_format.specs.CertificateGrammar.{IsFirstFault, IsFront, begun, certificate_of, missing};
-    ghost use Rattle.cert_format.specs.CertificateText.{Brings, SaysLine, advanced, fault_after, line_in};
+    ghost use Rattle.cert_format.specs.CertificateGrammar.{IsFirstCertificateFault, IsPrefix};
+    ghost use Rattle.cert_format.specs.CertificateGrammar.{initial, certificate_of, missing};
+    ghost use Rattle.cert_format.specs.CertificateFormat.{CertificateLineBrings};
+    ghost use Rattle.cert_format.specs.CertificateFormat.{SaysCertificateLine, advanced};
+    ghost use Rattle.cert_format.specs.CertificateFormat.{fault_after, line_in};
 
-    /// Before the first line.
+    /// A reader that has read no line. It takes no memory.
     pub fn new(alloc: Global) -> CertReader
-        ensures begun { result ≡ begun }
-        ensures front { IsFront [] result }
+        ensures initial { result ≡ initial }
+        ensures prefix { IsPrefix [] result }
     {
         CertReader {
             section: Section::Header,
@@ -58,12 +74,15 @@ impl CertReader {
         self.section
     }
 
-    /// Reads the next line in its place and keeps what it says. After the front of a certificate the lines are a longer
-    /// front, or at `End` they declare the certificate, or the line has their first fault. A line that is refused changes
-    /// nothing, and want of memory neither. The caller reads nothing more after `End`.
+    /// Reads the next line in its place and keeps what it says. If the lines before were the prefix
+    /// of a certificate, they are a longer prefix with this one, or at `End` declare the
+    /// certificate that is kept, whatever stands after them, or this line has their first fault, as
+    /// `read_certificate` gives it. A line that is refused changes nothing, and want of memory
+    /// neither. The caller reads nothing more after `End`.
     pub fn read_line(&mut self, line: &[u8]) -> Result<CertText, WordFault>
-        ensures brings { (front : List (List ℕ)) → IsFront front self.old → Brings front line.now result self.new }
-        ensures said { SaysLine result (line_in self.old.section (words line.now)) }
+        ensures brings { (prefix : List (List ℕ)) → IsPrefix prefix self.old
+            → CertificateLineBrings prefix line.now result self.new }
+        ensures said { SaysCertificateLine result (line_in self.old.section (words line.now)) }
         ensures kept { IfOk result (λ said. self.new ≡ advanced self.old said) }
         ensures refused { OnErr result (self.new ≡ self.old) }
     {
@@ -72,7 +91,7 @@ impl CertReader {
 
     /// Reads the next line in its place and keeps what it says.
     fn take_line(&mut self, line: &[u8]) -> Result<CertText, WordFault>
-        ensures said { SaysLine result (line_in self.old.section (words line.now)) }
+        ensures said { SaysCertificateLine result (line_in self.old.section (words line.now)) }
         ensures kept { IfOk result (λ said. self.new ≡ advanced self.old said) }
         ensures refused { OnErr result (self.new ≡ self.old) }
     {
@@ -81,10 +100,12 @@ impl CertReader {
         Ok(said)
     }
 
-    /// The fault where the lines end here: `NoHeader` before the header, else `NoEnd`, in the line after them.
+    /// The fault if the lines end here: `NoHeader` before the header, else `NoEnd`, in the line
+    /// after them. After the prefix of a certificate that is the first fault of its lines.
     pub fn missing(&self) -> FormatKind
         ensures missing { result ≡ missing self.now.section }
-        ensures fault { (front : List (List ℕ)) → IsFront front self.now → IsFirstFault front (fault_after front result) }
+        ensures fault { (prefix : List (List ℕ)) → IsPrefix prefix self.now
+            → IsFirstCertificateFault prefix (fault_after prefix result) }
     {
         self.section().missing()
     }

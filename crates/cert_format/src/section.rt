@@ -1,3 +1,5 @@
+//! The section of a certificate: what may come next in its text.
+
 use crate::keyword::Keyword;
 use net_model::FormatKind;
 

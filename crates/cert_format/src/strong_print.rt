@@ -3,8 +3,10 @@
 ghost use Rattle.std.specs.Prelude.{◌≡◌, ◌++◌, OnOk, IfOk, IsTrue, All};
 ghost use Rattle.std.specs.List.{flat_map};
 ghost use Rattle.net_model.specs.Names.{is_name};
-ghost use Rattle.texts.specs.Printing.{printed_line};
-ghost use Rattle.cert_format.specs.StrongWords.{by_words, ring_words, printed_strong, HasStrongWeight, HasStrongWeights, IsSpelledBy, OfOneKind};
+ghost use Rattle.texts.specs.PrintedLines.{printed_line};
+ghost use Rattle.cert_format.specs.StrongWords.{by_words, ring_words, printed_strong};
+ghost use Rattle.cert_format.specs.StrongWords.{HasStrongWeight, HasStrongWeights, IsSpelledBy};
+ghost use Rattle.cert_format.specs.StrongWords.{OfOneKind};
 ghost use Rattle.cert_format.specs.StrongReading.{strong_text};
 
 use crate::strong_cert::{StrongCert, StrongLine};
@@ -12,9 +14,10 @@ use net_model::Name;
 use std::alloc::{AllocError, Global};
 use texts::push_line;
 
-/// The text of a strong certificate: the header, its lines and `end`, with one blank between words and a line end after each line. It has
-/// lines of bounds or points of a ring and not both, and each weight must be below 10^18 in size. It reads back to the same certificate.
-/// `AllocError` comes only for want of memory.
+/// The text of a strong certificate: the header, its lines and `end`, with one blank between words
+/// and a line end after each line. It has lines of bounds or points of a ring and not both, and
+/// each weight must be below 10^18 in size. It reads back to the same certificate. `AllocError`
+/// comes only for want of memory.
 pub fn print_strong(alloc: Global, cert: &StrongCert) -> Result<Vec<u8>, AllocError>
     requires of_one_kind { OfOneKind cert.now }
     requires weights { HasStrongWeights cert.now }
@@ -31,7 +34,8 @@ pub fn print_strong(alloc: Global, cert: &StrongCert) -> Result<Vec<u8>, AllocEr
 
 fn push_by(alloc: Global, out: &mut Vec<u8>, lines: &[StrongLine]) -> Result<(), AllocError>
     requires { All HasStrongWeight lines.now }
-    ensures text { OnOk result (out.new.items ≡ out.old.items ++ flat_map (λ line. printed_line (by_words line)) lines.now) }
+    ensures text { OnOk result (out.new.items ≡ out.old.items ++ flat_map
+        (λ line. printed_line (by_words line)) lines.now) }
     ensures spelled { OnOk result (All IsSpelledBy lines.now) }
 {
     for line in lines {
@@ -56,7 +60,8 @@ fn push_one(alloc: Global, out: &mut Vec<u8>, line: &StrongLine) -> Result<(), A
 }
 
 fn push_ring(out: &mut Vec<u8>, ring: &[Name]) -> Result<(), AllocError>
-    ensures text { OnOk result (out.new.items ≡ out.old.items ++ flat_map (λ point. printed_line (ring_words point)) ring.now) }
+    ensures text { OnOk result (out.new.items ≡ out.old.items ++ flat_map
+        (λ point. printed_line (ring_words point)) ring.now) }
     ensures spelled { OnOk result (All (λ point. IsTrue (is_name point)) ring.now) }
 {
     for point in ring {

@@ -1,14 +1,15 @@
 //! The lines of a strong certificate, one after another.
 
 use crate::strong_cert::{StrongCert, StrongLine};
-use crate::strong_read::{StrongText, line_in};
+use crate::strong_read::{StrongTextLine, line_in};
 use crate::strong_section::StrongSection;
 use net_model::{FormatKind, Items, Name, WordFault};
 use std::alloc::{AllocError, Global};
 use std::marker::Model;
 
-/// A strong certificate of which lines are read one after another. Contracts see it as what was read: the section that is
-/// reached, the lines of bounds and the points of a ring.
+/// A strong certificate of which lines are read one after another. Contracts see it as what was
+/// read: the section that is reached, the lines of bounds and the points of a ring. Its calls
+/// promise of strong certificates what those of `CertReader` promise of certificates.
 #[derive(Debug, Drop)]
 pub struct StrongReader {
     section: StrongSection,
@@ -27,15 +28,16 @@ impl Model for StrongReader {
 impl StrongReader {
     ghost use Rattle.std.specs.Prelude.{◌≡◌, ℕ, List, [], IfOk, OnOk, OnErr};
     ghost use Rattle.texts.specs.Words.{words};
-    ghost use Rattle.cert_format.specs.StrongGrammar.{IsFirstStrongFault, IsStrongFront, begun, strong_of, missing};
+    ghost use Rattle.cert_format.specs.StrongGrammar.{IsFirstStrongFault, IsStrongPrefix, initial};
+    ghost use Rattle.cert_format.specs.StrongGrammar.{strong_of, missing};
     ghost use Rattle.cert_format.specs.StrongLines.{line_in};
-    ghost use Rattle.cert_format.specs.CertificateText.{fault_after};
+    ghost use Rattle.cert_format.specs.CertificateFormat.{fault_after};
     ghost use Rattle.cert_format.specs.StrongReading.{StrongBrings, SaysStrongLine, advanced};
 
-    /// Before the first line.
+    /// A reader that has read no line. It takes no memory.
     pub fn new(alloc: Global) -> StrongReader
-        ensures begun { result ≡ begun }
-        ensures front { IsStrongFront [] result }
+        ensures initial { result ≡ initial }
+        ensures prefix { IsStrongPrefix [] result }
     {
         StrongReader {
             section: StrongSection::Header,
@@ -51,11 +53,14 @@ impl StrongReader {
         self.section
     }
 
-    /// Reads the next line in its place and keeps what it says. After the front of a certificate the lines are a longer
-    /// front, or at `End` they declare the certificate, or the line has their first fault. A line that is refused changes
-    /// nothing, and want of memory neither. The caller reads nothing more after `End`.
-    pub fn read_line(&mut self, line: &[u8]) -> Result<StrongText, WordFault>
-        ensures brings { (front : List (List ℕ)) → IsStrongFront front self.old → StrongBrings front line.now result self.new }
+    /// Reads the next line in its place and keeps what it says. If the lines before were the prefix
+    /// of a strong certificate, they are a longer prefix with this one, or at `End` declare the
+    /// certificate that is kept, whatever stands after them, or this line has their first fault, as
+    /// `read_strong` gives it. A line that is refused changes nothing, and want of memory neither.
+    /// The caller reads nothing more after `End`.
+    pub fn read_line(&mut self, line: &[u8]) -> Result<StrongTextLine, WordFault>
+        ensures brings { (prefix : List (List ℕ)) → IsStrongPrefix prefix self.old
+            → StrongBrings prefix line.now result self.new }
         ensures said { SaysStrongLine result (line_in self.old.section (words line.now)) }
         ensures kept { IfOk result (λ said. self.new ≡ advanced self.old said) }
         ensures refused { OnErr result (self.new ≡ self.old) }
@@ -64,7 +69,7 @@ impl StrongReader {
     }
 
     /// Reads the next line in its place and keeps what it says.
-    fn take_line(&mut self, line: &[u8]) -> Result<StrongText, WordFault>
+    fn take_line(&mut self, line: &[u8]) -> Result<StrongTextLine, WordFault>
         ensures said { SaysStrongLine result (line_in self.old.section (words line.now)) }
         ensures kept { IfOk result (λ said. self.new ≡ advanced self.old said) }
         ensures refused { OnErr result (self.new ≡ self.old) }
@@ -74,27 +79,29 @@ impl StrongReader {
         Ok(said)
     }
 
-    /// The fault where the lines end here: `NoHeader` before the header, else `NoEnd`, in the line after them.
+    /// The fault if the lines end here: `NoHeader` before the header, else `NoEnd`, in the line
+    /// after them. After the prefix of a strong certificate that is the first fault of its lines.
     pub fn missing(&self) -> FormatKind
         ensures missing { result ≡ missing self.now.section }
-        ensures fault { (front : List (List ℕ)) → IsStrongFront front self.now → IsFirstStrongFault front (fault_after front result) }
+        ensures fault { (prefix : List (List ℕ)) → IsStrongPrefix prefix self.now
+            → IsFirstStrongFault prefix (fault_after prefix result) }
     {
         self.section().missing()
     }
 
     /// Keeps what a line says.
-    fn keep(&mut self, said: &StrongText) -> Result<(), AllocError>
+    fn keep(&mut self, said: &StrongTextLine) -> Result<(), AllocError>
         ensures kept { OnOk result (self.new ≡ advanced self.old said.now) }
         ensures refused { OnErr result (self.new ≡ self.old) }
     {
         match said {
-            StrongText::Blank | StrongText::End => {}
-            StrongText::Header => self.section = StrongSection::Lines,
-            StrongText::By(line) => {
+            StrongTextLine::Blank | StrongTextLine::End => {}
+            StrongTextLine::Header => self.section = StrongSection::Lines,
+            StrongTextLine::By(line) => {
                 self.by.push(*line)?;
                 self.section = StrongSection::By;
             }
-            StrongText::Ring(point) => {
+            StrongTextLine::Ring(point) => {
                 self.ring.push(*point)?;
                 self.section = StrongSection::Ring;
             }

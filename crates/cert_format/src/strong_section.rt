@@ -1,3 +1,5 @@
+//! The section of a strong certificate: what may come next in its text.
+
 use crate::strong_word::StrongWord;
 use net_model::FormatKind;
 

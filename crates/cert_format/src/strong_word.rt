@@ -1,3 +1,5 @@
+//! The first words of the lines of a strong certificate.
+
 ghost use Rattle.std.specs.Prelude.{◌≡◌};
 
 /// The first word of a line of a strong certificate.
@@ -10,7 +12,7 @@ pub(crate) enum StrongWord {
 }
 
 impl StrongWord {
-    ghost use Rattle.cert_format.specs.StrongForms.{spelled, word_of};
+    ghost use Rattle.cert_format.specs.StrongForms.{spelled, strong_word_of};
 
     const ALL: [StrongWord; 4] = [
         StrongWord::Strong,
@@ -31,9 +33,9 @@ impl StrongWord {
         }
     }
 
-    /// The first word that a word is, or `None` where it is none of them.
+    /// The first word that a word is, or `None` if it is none of them.
     pub(crate) fn of(word: &[u8]) -> Option<StrongWord>
-        ensures { result ≡ word_of word.now }
+        ensures { result ≡ strong_word_of word.now }
     {
         StrongWord::ALL
             .iter()

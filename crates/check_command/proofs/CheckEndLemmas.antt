@@ -3,11 +3,11 @@ use Rattle.std.proofs.Common.{inl, inr, ℕ, Bool, true, false, List}
 use Rattle.net_model.specs.Network.{Plan}
 use Rattle.command_engine.specs.declared.endings.End.{End}
 use Rattle.command_engine.specs.declared.endings.End.TheVariants as ends
-use Rattle.command_frame.specs.Causes.{IsAnswer}
+use Rattle.command_contracts.specs.Causes.{IsAnswer}
 use Rattle.check_command.specs.CheckPromise.{PutsVerdict}
-use Rattle.check_command.specs.Checking.{PutsYes}
-use Rattle.check_command.specs.declared.checking.CheckFlags.{CheckFlags}
-use Rattle.command_frame.proofs.CauseLemmas.{answers_as}
+use Rattle.check_command.specs.CheckAnswers.{PutsYes}
+use Rattle.check_command.specs.declared.check_question.CheckFlags.{CheckFlags}
+use Rattle.command_contracts.proofs.CauseLemmas.{answers_as}
 
 yes_answers : (proof : Bool) (net : Plan) (put : List ℕ) (end : End) → PutsYes proof net put end → IsAnswer end
 yes_answers false net put end puts = answers_as end ends.Done puts.1 tt

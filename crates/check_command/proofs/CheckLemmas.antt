@@ -6,38 +6,39 @@ use Rattle.net_model.specs.ShownForm.{shown_form}
 use Rattle.strategy_model.specs.Control.{IsControllable}
 use Rattle.cert_format.specs.CertificateWords.{printed_certificate}
 use Rattle.cert_format.specs.declared.certificate.Certificate.{Certificate}
-use Rattle.table_proofs.specs.Certified.{Proves}
+use Rattle.closure_certificates.specs.Certified.{Proves}
 use Rattle.command_engine.specs.Grammars.{ReadsBy}
 use Rattle.command_engine.specs.Inputs.{AnswersOrRefuses}
 use Rattle.command_engine.specs.Runs.{Runs}
 use Rattle.command_engine.specs.declared.endings.End.{End}
 use Rattle.command_engine.proofs.InputLemmas.{answers_text}
-use Rattle.command_engine.proofs.TestingLemmas.{tested_by}
+use Rattle.command_engine.proofs.TestedTextLemmas.{tested_by}
 use Rattle.common_answers.specs.VerdictLines.{controllable_line, refuted_line}
 use Rattle.common_answers.specs.declared.faults.Fault.{Fault}
 use Rattle.check_command.specs.CheckPromise.{CheckPromise, PutsVerdict}
-use Rattle.check_command.specs.Checking.{PutsYes, check_answers, check_machine, check_reader, check_start, checked_plan, engine_test}
+use Rattle.check_command.specs.CheckAnswers.{PutsYes, check_answers, check_machine, check_reader, check_start, checked_plan, engine_test}
 use Rattle.check_command.specs.Engines.{engine_tests, takes}
 use Rattle.common_answers.specs.Faults.{refusing}
-use Rattle.plan_inputs.specs.PlanInput.{input_begun, input_reader, plan_in}
-use Rattle.plan_inputs.proofs.PlanInputLemmas.{input_by}
+use Rattle.input_texts.specs.PlanInput.{initial_input, input_reader, plan_in}
+use Rattle.input_texts.proofs.PlanInputLemmas.{input_by}
 use Rattle.verdicts.proofs.VerdictLemmas.{verdict_put}
-use Rattle.check_command.specs.declared.checking.CheckFlags.{CheckFlags}
-use Rattle.command_frame.proofs.DecidedLemmas.{after_line, no_refusal_is_controllable, no_refusal_is_refuted, yes_by, refutes_by}
+use Rattle.check_command.specs.declared.check_question.CheckFlags.{CheckFlags}
+use Rattle.command_contracts.proofs.DecidedLemmas.{after_line, no_refusal_is_controllable, no_refusal_is_refuted, yes_by, refutes_by}
 
 -- what is put of a controllable network begins with that line
 yes_begins : (proof : Bool) (net : Plan) (put : List ℕ) (end : End) → PutsYes proof net put end → (more : List ℕ) × (put ≡ controllable_line ++ more)
 yes_begins false net put end puts = ([], puts.0)
 yes_begins true net put end (cert, proves, puts) = (printed_certificate cert, puts.0)
 
--- where a proof is wanted, what stands after that line is the proof
-proof_after : (proof : Bool) (net : Plan) (put : List ℕ) (end : End) → proof ≡ true → PutsYes proof net put end → (more : List ℕ) → put ≡ controllable_line ++ more → (cert : Certificate) × Proves (shown_form net) cert × (more ≡ printed_certificate cert)
+-- if a proof is wanted, what stands after that line is the proof
+proof_after : (proof : Bool) (net : Plan) (put : List ℕ) (end : End) → proof ≡ true → PutsYes proof net put end → (more : List ℕ) → put ≡ controllable_line ++ more
+    → (cert : Certificate) × Proves (shown_form net) cert × (more ≡ printed_certificate cert)
 proof_after false net put end wanted puts more same = absurd (true≢false (sym wanted))
 proof_after true net put end wanted (cert, proves, puts) more same = (cert, proves, ap after_line (sym same ∙ puts.0))
 
 -- ---- the plan that is read
 pub check_by : (flags : CheckFlags) → ReadsBy check_reader (check_start flags).text 0 (checked_plan flags)
-check_by flags = tested_by input_reader engine_tests (engine_test flags) (input_begun flags.form) 0 (plan_in flags.form) (input_by flags.form 0)
+check_by flags = tested_by input_reader engine_tests (engine_test flags) (initial_input flags.form) 0 (plan_in flags.form) (input_by flags.form 0)
 
 pub passed : (fits : Bool) (net other : Plan) (fault : Fault) → ◌≡◌ {A = Result Plan Fault} (if fits then Ok net else Err fault) (Ok other) → (fits ≡ true) × (net ≡ other)
 passed true net other fault is = (refl, cc)
@@ -70,7 +71,7 @@ module _ (flags : CheckFlags) (input put : List ℕ) (end : End) where
 
   pub check_keeps : Runs check_machine (check_start flags) input put end → CheckPromise flags input put end
   check_keeps runs =
-      let text = answers_text check_reader (check_start flags).text (checked_plan flags) (check_by flags) (λ (asked : CheckFlags) net number. check_answers asked net) refusing flags input put end runs in
+      let text = answers_text check_reader (check_start flags).text (checked_plan flags) (check_by flags) (λ (query : CheckFlags) net number. check_answers query net) refusing flags input put end runs in
       let puts : Put = verdict_by text.answers in
       record {
         checks = record {

@@ -1,18 +1,18 @@
--- `check` answers a network in one way, and where a proof is wanted, the certificate that proves it is the answer.
+-- `check` answers a network in one way, and if a proof is wanted, the certificate that proves it is the answer.
 use Rattle.std.proofs.Common.{◌≡◌, ℕ, Bool, true, false, List, ◌++◌, inl, sym, ap, ◌∙◌, true≢false}
 use Rattle.net_model.specs.Network.{Plan}
 use Rattle.net_model.specs.ShownForm.{shown_form}
 use Rattle.cert_format.specs.CertificateWords.{printed_certificate}
 use Rattle.cert_format.specs.declared.certificate.Certificate.{Certificate}
-use Rattle.table_proofs.specs.Certified.{Proves}
-use Rattle.table_proofs.proofs.LawProofs.{certificates_are_one}
+use Rattle.closure_certificates.specs.Certified.{Proves}
+use Rattle.closure_certificates.proofs.LawProofs.{law_certificates_are_one}
 use Rattle.command_engine.specs.declared.endings.End.{End}
 use Rattle.common_answers.specs.VerdictLines.{controllable_line, PutsProved}
 use Rattle.verdicts.proofs.RefutationLemmas.{answers_once}
-use Rattle.check_command.specs.Checking.{PutsYes, check_answers}
-use Rattle.check_command.specs.declared.checking.CheckFlags.{CheckFlags}
+use Rattle.check_command.specs.CheckAnswers.{PutsYes, check_answers}
+use Rattle.check_command.specs.declared.check_question.CheckFlags.{CheckFlags}
 
--- where a proof is wanted, the certificate that proves it is the answer
+-- if a proof is wanted, the certificate that proves it is the answer
 module _ (net : Plan) (cert : Certificate) (proves : Proves (shown_form net) cert) where
   pub proved_yes : (proof : Bool) → proof ≡ true → (put : List ℕ) (end : End) → PutsProved cert put end → PutsYes proof net put end
   proved_yes true wanted put end puts = (cert, proves, puts)
@@ -21,7 +21,7 @@ module _ (net : Plan) (cert : Certificate) (proves : Proves (shown_form net) cer
 yes_once : (proof : Bool) (net : Plan) (a b : List ℕ) (x y : End) → PutsYes proof net a x → PutsYes proof net b y → (a ≡ b) × (x ≡ y)
 yes_once false net a b x y puts also = (puts.0 ∙ sym also.0, puts.1 ∙ sym also.1)
 yes_once true net a b x y (cert, proves, puts) (other, is, also) =
-    (puts.0 ∙ (ap (λ (c : Certificate). controllable_line ++ printed_certificate c) (certificates_are_one (shown_form net) cert other (inl proves) (inl is)) ∙ sym also.0), puts.1 ∙ sym also.1)
+    (puts.0 ∙ (ap (λ (c : Certificate). controllable_line ++ printed_certificate c) (law_certificates_are_one (shown_form net) cert other (inl proves) (inl is)) ∙ sym also.0), puts.1 ∙ sym also.1)
 
 pub check_answers_once : (flags : CheckFlags) (net : Plan) (a b : List ℕ) (x y : End) → check_answers flags net a x → check_answers flags net b y → (a ≡ b) × (x ≡ y)
 check_answers_once flags net a b x y = answers_once net (PutsYes flags.proof net) (yes_once flags.proof net) a b x y

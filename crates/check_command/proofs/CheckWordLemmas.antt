@@ -4,19 +4,19 @@ use Rattle.std.specs.Option.{option_and_then, option_map}
 use Rattle.std.specs.Str.{bytes_eq}
 use Rattle.std.proofs.lemmas.Slice.Eq.{bytes_eq-Decides}
 use Rattle.command_words.specs.Arguments.{is_given, text_given}
-use Rattle.command_words.specs.Spelling.{Use}
+use Rattle.command_words.specs.SpelledWords.{Use}
 use Rattle.command_words.specs.Syntax.{Text}
-use Rattle.check_command.specs.Checking.{check_asked, check_syntax, proof_name}
+use Rattle.check_command.specs.CheckAnswers.{check_request, check_syntax, proof_name}
 use Rattle.check_command.specs.Engines.{SaysEngine, engine_given, engine_name, engine_of, engine_word}
-use Rattle.command_frame.specs.Requests.{asked_by}
+use Rattle.command_contracts.specs.Requests.{requested_by}
 use Rattle.check_command.specs.Words.{SayCheckFlags}
-use Rattle.command_frame.specs.Workers.{WorkersDecideNothing}
-use Rattle.plan_inputs.specs.declared.plan_input.PlanForm.{PlanForm}
-use Rattle.check_command.specs.declared.checking.CheckFlags.{CheckFlags}
+use Rattle.command_contracts.specs.WorkerCounts.{WorkersDecideNothing}
+use Rattle.input_texts.specs.declared.plan_input.PlanForm.{PlanForm}
+use Rattle.check_command.specs.declared.check_question.CheckFlags.{CheckFlags}
 use Rattle.check_command.specs.declared.engine.Engine.{Engine}
 use Rattle.check_command.specs.declared.engine.Engine.TheVariants.{Rounds, Cells}
-use Rattle.command_frame.proofs.WorkersLemmas.{decide_nothing_said, said_by_uses}
-use Rattle.command_frame.proofs.FormWordLemmas.{form_said, said_form, same_form, says_form}
+use Rattle.command_contracts.proofs.WorkersLemmas.{decide_nothing_said, said_by_uses}
+use Rattle.command_contracts.proofs.FormWordLemmas.{form_said, said_form, same_form, says_form}
 
 -- ---- the word that names an engine
 
@@ -58,9 +58,9 @@ flags_given proof engine form = option_and_then (with_engine proof engine) form
 abbrev pub said_flags : List Use → Option CheckFlags
 said_flags uses = flags_given (is_given proof_name uses) (engine_given (text_given engine_name uses)) (said_form uses)
 
-pub workers_decide_no_flag : WorkersDecideNothing check_syntax check_asked
+pub workers_decide_no_flag : WorkersDecideNothing check_syntax check_request
 workers_decide_no_flag =
-    decide_nothing_said check_syntax refl check_asked said_flags (λ uses. refl) refl
+    decide_nothing_said check_syntax refl check_request said_flags (λ uses. refl) refl
     (λ uses others differ. ap (flags_given (is_given proof_name uses) (engine_given (text_given engine_name uses))) (same_form uses others differ)
     ∙ (ap (λ (proof : Bool). flags_given proof (engine_given (text_given engine_name uses)) (said_form others)) (differ.flags proof_name refl)
     ∙ ap (λ (value : Option Text). flags_given (is_given proof_name others) (engine_given value) (said_form others)) (differ.options engine_name refl)))
@@ -83,12 +83,12 @@ given_flags proof engine form flags are =
     ap (flags_given proof engine) are.form
     ∙ (ap (λ (e : Option Engine). flags_given proof e (Some flags.form)) are.engine ∙ ap (λ (p : Bool). flags_given p (Some flags.engine) (Some flags.form)) are.proof)
 
-pub check_exactly : (words : List Text) (flags : CheckFlags) → asked_by check_syntax check_asked words ≡ Some flags ↔ SayCheckFlags check_syntax flags words
+pub check_exactly : (words : List Text) (flags : CheckFlags) → requested_by check_syntax check_request words ≡ Some flags ↔ SayCheckFlags check_syntax flags words
 check_exactly words flags = (to, from)
   where
-    to : asked_by check_syntax check_asked words ≡ Some flags → SayCheckFlags check_syntax flags words
+    to : requested_by check_syntax check_request words ≡ Some flags → SayCheckFlags check_syntax flags words
     to is =
-        let found = (said_by_uses check_syntax refl check_asked said_flags (λ uses. refl) words flags).0 is in
+        let found = (said_by_uses check_syntax refl check_request said_flags (λ uses. refl) words flags).0 is in
         let uses = found.0.uses in
         let are = flags_are (is_given proof_name uses) (engine_given (text_given engine_name uses)) (said_form uses) flags found.1 in
         record {
@@ -97,9 +97,9 @@ check_exactly words flags = (to, from)
           engine = says_engine (text_given engine_name uses) flags.engine are.engine;
         }
 
-    from : SayCheckFlags check_syntax flags words → asked_by check_syntax check_asked words ≡ Some flags
+    from : SayCheckFlags check_syntax flags words → requested_by check_syntax check_request words ≡ Some flags
     from say =
         let uses = say.say.say.uses in
         let given = given_flags (is_given proof_name uses) (engine_given (text_given engine_name uses)) (said_form uses) flags
         (record { form = form_said uses flags.form say.say.given; proof = say.proof; engine = engine_said (text_given engine_name uses) flags.engine say.engine }) in
-        (said_by_uses check_syntax refl check_asked said_flags (λ u. refl) words flags).1 (say.say.say, given)
+        (said_by_uses check_syntax refl check_request said_flags (λ u. refl) words flags).1 (say.say.say, given)

@@ -1,5 +1,5 @@
 pub mod Engines
-pub mod Checking
+pub mod CheckAnswers
 pub mod CheckPromise
 pub mod Words
 pub mod EngineLaw

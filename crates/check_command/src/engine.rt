@@ -1,32 +1,35 @@
 //! The engine by which a network is decided.
 
 ghost use Rattle.std.specs.Prelude.{◌≡◌, option_map, IfOk};
-ghost use Rattle.check_command.specs.Engines.{engine_given, engine_of, engine_tests, takes, told_line};
+ghost use Rattle.check_command.specs.Engines.{engine_given, engine_of, engine_tests, takes};
+ghost use Rattle.check_command.specs.Engines.{reported_line};
 ghost use Rattle.verdicts.specs.Verdict.{IsVerdict};
 
 use cell_table::fits;
+use command_contracts::WorkerCount;
 use command_engine::Test;
-use command_frame::Workers;
 use common_answers::Fault;
+use input_texts::{Notation, PlanNetwork};
 use net_model::Network;
-use plan_inputs::{Notation, PlanNetwork};
 use std::alloc::{AllocError, Global};
 use std::marker::Model;
 use std::thread::Threads;
 use verdicts::Verdict;
 
-/// The engine by which a network is decided. Both come to the same verdict, and a refutation is made of rounds by either.
+/// The engine by which a network is decided. Both come to the same verdict, and a refutation is
+/// made of rounds by either. No clause says which of them works.
 #[derive(Clone, Copy, Debug, PartialEq, Eq)]
 pub enum Engine {
     /// Its table is closed by one worker, and tested by all.
     Rounds,
-    /// Its table is closed by all workers at once, in shared cells, which hold 1,000,000 keys: points times (points + links).
+    /// Its table is closed by all workers at once, in shared cells, which hold 1,000,000 keys:
+    /// points times (points + links).
     Cells,
 }
 
 impl Engine {
-    /// The engine that the value of the option `--engine` names, or that of rounds where it is not given; `None` where the value is neither
-    /// `rounds` nor `cells`.
+    /// The engine that the value of the option `--engine` names, or that of rounds if it is not
+    /// given; `None` if the value is neither `rounds` nor `cells`.
     pub fn given(value: Option<&str>) -> Option<Engine>
         ensures { result ≡ engine_given (option_map (λ text. text.now) value.entry) }
     {
@@ -46,7 +49,8 @@ impl Engine {
         }
     }
 
-    /// Whether it takes a network: that of cells takes one whose keys cells hold, that of rounds any.
+    /// Whether it takes a network: that of cells takes one whose keys cells hold, that of rounds
+    /// any.
     fn takes(self, net: &Network) -> bool
         ensures { result ≡ takes self net.now }
     {
@@ -57,8 +61,9 @@ impl Engine {
     }
 }
 
-/// Whether an engine takes the network of a plan in this notation. As a test it refuses one that has more keys than cells hold, where these
-/// are the engine: by the number of the line that ends the plan, or of a document by 0.
+/// Whether an engine takes the network of a plan in this notation. As a test it refuses one that
+/// has more keys than cells hold, if these are the engine: by the number of the line that ends the
+/// plan, or of a document by 0.
 #[derive(Clone, Copy, Debug, PartialEq, Eq)]
 pub struct EngineTest {
     pub engine: Engine,
@@ -81,13 +86,13 @@ impl Test<PlanNetwork, Fault> for EngineTest {
         if engine.takes(&net) {
             Ok(Ok(EnginePlan { net, engine }))
         } else {
-            Ok(Err(Fault::Cells(told_line(self.notation, number))))
+            Ok(Err(Fault::Cells(reported_line(self.notation, number))))
         }
     }
 }
 
-fn told_line(notation: Notation, number: u32) -> u32
-    ensures { result ≡ told_line notation number }
+fn reported_line(notation: Notation, number: u32) -> u32
+    ensures { result ≡ reported_line notation number }
 {
     match notation {
         Notation::Text => number,
@@ -95,7 +100,8 @@ fn told_line(notation: Notation, number: u32) -> u32
     }
 }
 
-/// The network of a plan, and an engine that takes it. Contracts see it as the network: the engine decides nothing of what is put.
+/// The network of a plan, and an engine that takes it. Contracts see it as the network: the engine
+/// decides nothing of what is put.
 #[derive(Debug, Drop)]
 pub struct EnginePlan {
     net: Network,
@@ -109,18 +115,19 @@ impl Model for EnginePlan {
 
     ghost Value = { Plan };
 
-    ghost view = { λ planned. planned.net };
+    ghost view = { λ kept. kept.net };
 
-    ghost invariant = { λ planned. takes planned.engine planned.net ≡ true };
+    ghost invariant = { λ kept. takes kept.engine kept.net ≡ true };
 }
 
 impl EnginePlan {
-    /// Decides whether the network is controllable, by its engine and these workers. `AllocError` comes only for want of memory.
+    /// Decides whether the network is controllable, by its engine and these workers. `AllocError`
+    /// comes only for want of memory.
     pub fn decide<R: Threads + Sync>(
         self,
         rt: &R,
         alloc: Global,
-        workers: &Workers,
+        workers: &WorkerCount,
     ) -> Result<Verdict, AllocError>
         ensures { IfOk result (IsVerdict self) }
     {

@@ -114,7 +114,8 @@ module _ (net : Plan) (sound : IsPlan net) where
       each : (e : ℕ × Link) → Contains (enumerate_from 0 net.links) e → IsKey (shape_of net) (key_of (link_edge (record { 0 = e.0 }) e.1)) × IsWeight (pos 0 -ℤ e.1.high)
       each e inside =
           let edge : Edge = link_edge (record { 0 = e.0 }) e.1 in
-          base_edge_sound edge (Contains-append_right (map bound_edge net.bounds) (map (λ (e : ℕ × Link). link_edge (record { 0 = e.0 }) e.1) (enumerate_from 0 net.links)) edge (Contains-map (λ (e : ℕ × Link). link_edge (record { 0 = e.0 }) e.1) (enumerate_from 0 net.links) e inside))
+          base_edge_sound edge (Contains-append_right (map bound_edge net.bounds) (map (λ (e : ℕ × Link). link_edge (record { 0 = e.0 }) e.1) (enumerate_from 0 net.links)) edge
+          (Contains-map (λ (e : ℕ × Link). link_edge (record { 0 = e.0 }) e.1) (enumerate_from 0 net.links) e inside))
 
 base_has : (net : Plan) → HasBase net (base_table net)
 base_has net = all_contained (HasAtMost (base_table net)) (base_edges net) (table_of-has (shape_of net) (base_edges net))
@@ -122,8 +123,8 @@ base_has net = all_contained (HasAtMost (base_table net)) (base_edges net) (tabl
 base_weakest : (net : Plan) (graph : Graph) → HasBase net graph → IsAtMost graph (base_table net)
 base_weakest net graph base edge has = All-contains (HasAtMost graph) (base_edges net) edge base (table_of-given (shape_of net) (base_edges net) edge has)
 
-pub base_table_is_weakest : BaseTableIsWeakest
-base_table_is_weakest net sound = (base_sound net sound, base_has net, base_weakest net)
+pub law_base_table_is_weakest : BaseTableIsWeakest
+law_base_table_is_weakest net sound = (base_sound net sound, base_has net, base_weakest net)
 
 pub closed_has_base : ClosedTablesHaveTheBase
 closed_has_base net graph closed = all_contained (HasAtMost graph) (base_edges net) has

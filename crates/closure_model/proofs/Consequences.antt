@@ -102,7 +102,7 @@ ends_there net sound name link point declared ends = first (position_or_len_is (
     first place = let inside = within in rw place (grind (arith, nat_tests))
 
 -- ---- the consequences
--- what a rule gives from an edge of a row, with an edge of the table before it where the rule takes two
+-- what a rule gives from an edge of a row, with an edge of the table before it if the rule takes two
 pub data IsConsequence (net : Plan) (table : Graph) (premise : Edge) (made : Made) : Type 0 where
   removed : removal net premise ≡ Some made.edge → Drop premise ≡ made.why → IsConsequence net table premise made
   moved : (name : LinkId) → lower_case net name premise ≡ Some made.edge → Low name premise ≡ made.why → IsConsequence net table premise made

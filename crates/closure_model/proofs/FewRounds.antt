@@ -5,7 +5,7 @@ use Rattle.net_model.specs.Network.{Plan, IsPlan}
 use Rattle.net_model.specs.declared.ids.PointId.{PointId}
 use Rattle.closure_model.specs.Derivations.{Support, StandsOn}
 use Rattle.closure_model.specs.Keys.{Shape, shape_of, ordinary_key, all_points}
-use Rattle.closure_model.specs.Orders.{goes, first_left}
+use Rattle.closure_model.specs.Orders.{goes, lowest_unplaced}
 use Rattle.closure_model.specs.ReferenceRow.{reference_row}
 use Rattle.closure_model.specs.ReferenceRound.{round_made, after_round}
 use Rattle.closure_model.specs.ReferenceRounds.{Ending, RoundsEnd, in_cycle, in_order, after_one}
@@ -14,9 +14,9 @@ use Rattle.closure_model.specs.Tables.{weight_of}
 use Rattle.closure_model.proofs.Consequences.{all_points_stand}
 use Rattle.closure_model.proofs.Lists.{Contains-head, Contains-tail}
 use Rattle.closure_model.proofs.OrderLemmas.{both_true, find_none, find_some, in_points}
-use Rattle.closure_model.proofs.RoundClosing.{standing_fits, standing_sound}
-use Rattle.closure_model.proofs.RoundsLaw.{rounds_keep_standing}
-use Rattle.closure_model.proofs.RowsNeedRows.{rows_need_fallen_rows, gone_edge}
+use Rattle.closure_model.proofs.RoundClosure.{standing_fits, standing_sound}
+use Rattle.closure_model.proofs.RoundsLaw.{law_rounds_keep_standing}
+use Rattle.closure_model.proofs.RowsNeedRows.{law_rows_need_improved_rows, gone_edge}
 use Rattle.closure_model.proofs.Walks.{EndsWalk, alone, longer, walk_lower, walks_are_short}
 
 -- ---- lists
@@ -45,12 +45,12 @@ not_other true b holds first = holds
 not_other false b holds first = absurd cc
 
 module _ (net : Plan) (plan : IsPlan net) where
-  -- where something falls in a row after a round, something fell in the round in the row of a point from which a negative ordinary edge
+  -- if something improves in a row after a round, something improved in the round in the row of a point from which a negative ordinary edge
   -- now goes to the target
   record ComesFrom (was : Support) (to : PointId) : Type 0 where
     from : PointId
     went : goes (after_round net was).table from to ≡ true
-    fell : reference_row net was.table from ≢ []
+    improved : reference_row net was.table from ≢ []
 
   goes_begins : (support : Support) → StandsOn net support → (from to : PointId) → goes support.table from to ≡ true → from.0 < support.table.shape.points
   goes_begins support stands from to went =
@@ -66,64 +66,66 @@ module _ (net : Plan) (plan : IsPlan net) where
       by : (o : Option PointId) → find (from_test was to) (all_points (after_round net was).table.shape) ≡ o → ComesFrom was to
       by (Some from) is =
           let found = find_some (from_test was to) (all_points (after_round net was).table.shape) from is in
-          let (went, fell) = both_true (goes (after_round net was).table from to) (has_some (reference_row net was.table from)) found.passes in
-          record { from = from; went = went; fell = some_there (reference_row net was.table from) fell }
-      by None is = absurd (some (rows_need_fallen_rows net was to plan stands still))
+          let (went, improved) = both_true (goes (after_round net was).table from to) (has_some (reference_row net was.table from)) found.passes in
+          record { from = from; went = went; improved = some_there (reference_row net was.table from) improved }
+      by None is = absurd (some (law_rows_need_improved_rows net was to plan stands still))
         where
           still : (from : PointId) → goes (after_round net was).table from to ≡ true → reference_row net was.table from ≡ []
           still from went =
-              let inside = goes_begins (after_round net was) (rounds_keep_standing net was plan stands).0 from to went in
+              let inside = goes_begins (after_round net was) (law_rounds_keep_standing net was plan stands).0 from to went in
               let test = find_none (from_test was to) (all_points (after_round net was).table.shape) from is (all_points_stand (after_round net was).table.shape from inside) in
               none_there (reference_row net was.table from) (not_other (goes (after_round net was).table from to) (has_some (reference_row net was.table from)) test went)
 
-pub unstale_rows_stay : UnstaleRowsStay
-unstale_rows_stay net support fallen to plan stands listed fresh = rows_need_fallen_rows net support to plan stands still
+pub law_unstale_rows_stay : UnstaleRowsStay
+law_unstale_rows_stay net support improvements to plan stands listed delta = law_rows_need_improved_rows net support to plan stands still
   where
     still : (from : PointId) → goes (after_round net support).table from to ≡ true → reference_row net support.table from ≡ []
     still from went =
-        let (stands_on, lower) = rounds_keep_standing net support plan stands in
+        let (stands_on, lower) = law_rounds_keep_standing net support plan stands in
         let shape : (after_round net support).table.shape ≡ shape_of net = standing_fits net plan (after_round net support) stands_on in
         let inside : from.0 < length net.points = subst (λ (s : Shape). from.0 < s.points) shape (goes_begins net plan (after_round net support) stands_on from to went) in
         let (weight, held, below) = gone_edge (after_round net support).table from to went in
         by inside weight held below (has_some (reference_row net support.table from)) refl
       where
-        by : from.0 < length net.points → (weight : ℤ) → weight_of (after_round net support).table (ordinary_key from to) ≡ Some weight → weight <ℤ pos 0 → (b : Bool) → has_some (reference_row net support.table from) ≡ b → reference_row net support.table from ≡ []
+        by : from.0 < length net.points → (weight : ℤ) → weight_of (after_round net support).table (ordinary_key from to) ≡ Some weight → weight <ℤ pos 0 → (b : Bool) → has_some (reference_row net support.table from) ≡ b
+            → reference_row net support.table from ≡ []
         by inside weight held below false none = none_there (reference_row net support.table from) none
         by inside weight held below true some =
-            absurd (fresh (record { from = from; to = to; label = None; weight = weight }, held, refl, below, listed from inside (some_there (reference_row net support.table from) some)))
+            absurd (delta (record { from = from; to = to; label = None; weight = weight }, held, refl, below, listed from inside (some_there (reference_row net support.table from) some)))
 
--- what is known after so many rounds in which something fell: a row in which something fell in the last of them ends a walk of as many
--- points, in the table before it
-pub data HasFallen (net : Plan) : ℕ → Support → Type 0 where
-  never : (support : Support) → HasFallen net 0 support
-  again : (count : ℕ) (was : Support) → StandsOn net was → ((to : PointId) → to.0 < was.table.shape.points → reference_row net was.table to ≢ [] → EndsWalk was.table count to) → HasFallen net count (after_round net was)
+-- what is known after so many rounds in which something improved: a row in which something improved in the last of them ends a walk of as
+-- many points, in the table before it
+pub data HasImproved (net : Plan) : ℕ → Support → Type 0 where
+  never : (support : Support) → HasImproved net 0 support
+  again : (count : ℕ) (was : Support) → StandsOn net was → ((to : PointId) → to.0 < was.table.shape.points → reference_row net was.table to ≢ [] → EndsWalk was.table count to) → HasImproved net count (after_round net was)
 
 module _ (net : Plan) (plan : IsPlan net) where
-  -- so a row in which something falls in the next round ends a longer one
-  next_walk : (count : ℕ) (support : Support) → HasFallen net count support → (to : PointId) → to.0 < support.table.shape.points → reference_row net support.table to ≢ [] → EndsWalk support.table (suc count) to
+  -- so a row in which something improves in the next round ends a longer one
+  next_walk : (count : ℕ) (support : Support) → HasImproved net count support → (to : PointId) → to.0 < support.table.shape.points → reference_row net support.table to ≢ [] → EndsWalk support.table (suc count) to
   next_walk _ _ (never support) to inside some = alone to inside
   next_walk _ _ (again count was stands walks) to inside some =
       let came = comes_from net plan was to stands some in
-      let (stands_on, lower) = rounds_keep_standing net was plan stands in
+      let (stands_on, lower) = law_rounds_keep_standing net was plan stands in
       let shape : (after_round net was).table.shape ≡ was.table.shape = standing_fits net plan (after_round net was) stands_on ∙ sym (standing_fits net plan was stands) in
-      let begun : came.from.0 < was.table.shape.points = subst (λ (s : Shape). came.from.0 < s.points) shape (goes_begins net plan (after_round net was) stands_on came.from to came.went) in
-      longer count came.from to inside came.went (walk_lower (after_round net was).table was.table count came.from shape lower (walks came.from begun came.fell))
+      let from_inside : came.from.0 < was.table.shape.points = subst (λ (s : Shape). came.from.0 < s.points) shape (goes_begins net plan (after_round net was) stands_on came.from to came.went) in
+      longer count came.from to inside came.went (walk_lower (after_round net was).table was.table count came.from shape lower (walks came.from from_inside came.improved))
 
-  -- one round more in which something falls: there are still no more of them than points
-  pub falls_again : (count : ℕ) (support : Support) → StandsOn net support → HasFallen net count support → first_left support.table ≡ None → round_made net support.table ≢ [] → HasFallen net (suc count) (after_round net support) × (suc count ≤ length net.points)
-  falls_again count support stands has left some =
-      let (to, inside, fell) = something_in (reference_row net support.table) (all_points support.table.shape) some in
-      let short = walks_are_short support.table (suc count) to left (next_walk count support has to (in_points support.table to inside) fell) in
+  -- one round more in which something improves: there are still no more of them than points
+  pub improves_again : (count : ℕ) (support : Support) → StandsOn net support → HasImproved net count support → lowest_unplaced support.table ≡ None → round_made net support.table ≢ []
+      → HasImproved net (suc count) (after_round net support) × (suc count ≤ length net.points)
+  improves_again count support stands has left some =
+      let (to, inside, improved) = something_in (reference_row net support.table) (all_points support.table.shape) some in
+      let short = walks_are_short support.table (suc count) to left (next_walk count support has to (in_points support.table to inside) improved) in
       let points : support.table.shape.points ≡ length net.points = ap (λ (s : Shape). s.points) (standing_fits net plan support stands) in
       (again (suc count) support stands (next_walk count support has), omega arith)
 
-  few : (start after : Support) (rounds : ℕ) (ending : Ending) (count : ℕ) → StandsOn net start → HasFallen net count start → count ≤ length net.points → RoundsEnd net start rounds after ending → count + rounds ≤ suc (length net.points)
+  few : (start after : Support) (rounds : ℕ) (ending : Ending) (count : ℕ) → StandsOn net start → HasImproved net count start → count ≤ length net.points → RoundsEnd net start rounds after ending → count + rounds ≤ suc (length net.points)
   few start after _ ending count stands has small (in_cycle _ first left) = omega arith
   few start after _ ending count stands has small (in_order _ left none) = omega arith
   few start after _ ending count stands has small (after_one _ _ more _ left some rest) =
-      let (on, enough) = falls_again count start stands has left some in
-      let later = few (after_round net start) after more ending (suc count) (rounds_keep_standing net start plan stands).0 on enough rest in
+      let (on, enough) = improves_again count start stands has left some in
+      let later = few (after_round net start) after more ending (suc count) (law_rounds_keep_standing net start plan stands).0 on enough rest in
       omega arith
 
-pub rounds_are_few : RoundsAreFew
-rounds_are_few net start after rounds ending plan stands ends = let all = few net plan start after rounds ending 0 stands (never start) (omega arith) ends in omega arith
+pub law_rounds_are_few : RoundsAreFew
+law_rounds_are_few net start after rounds ending plan stands ends = let all = few net plan start after rounds ending 0 stands (never start) (omega arith) ends in omega arith

@@ -1,4 +1,4 @@
--- The first of the least is the only one that is it, and there is one wherever an item has a weight.
+-- The first of the least is the only one that is it, and there is one whenever an item has a weight.
 use Rattle.std.proofs.Common.{◌≡◌, ◌+◌, ◌<◌, ℕ, suc, zero, ℤ, ◌≤ℤ◌, ◌<ℤ◌, Bool, true, false, cond, List, [], ◌∷◌, ◌++◌, length, ◌⊎◌, inl, inr, Option, Some, None, arith, refl, ap, sym, ◌∙◌}
 use Rattle.std.specs.Prelude.{int_le, MatchOption, slice_get}
 use Rattle.std.specs.Option.{option_map, option_and_then}
@@ -32,7 +32,7 @@ module _ {A : Type 0} (weight : A → Option ℤ) (start : ℕ) (x : A) (xs : Li
       least zero w there = le_of_same mine w (same_weight mine w (sym is ∙ there))
       least (suc other) w there = le_then mine next.1 w not_greater (rest.least other w there)
 
-  -- the next of the others stays it where it is below what the first item has, if it has a weight
+  -- the next of the others stays it if it is below what the first item has, if it has a weight
   later : (next : ℕ × ℤ) → ((w : ℤ) → weight x ≡ Some w → next.1 <ℤ w) → IsFirstFrom weight (suc start) xs next → IsFirstFrom weight start (x ∷ xs) next
   later next above rest = record {
     place = suc rest.place;
@@ -119,8 +119,8 @@ only_first weight xs (Some one) (Some other) a b = ap Some (both_first weight xs
 pub first_least_of : {A : Type 0} (weight : A → Option ℤ) (xs : List A) (next : Option (ℕ × ℤ)) → FirstIs weight xs next → first_least weight xs ≡ next
 first_least_of weight xs next is = only_first weight xs (first_least weight xs) next (first_least-is weight xs) is
 
-pub first_is_next : FirstIsNext
-first_is_next slots next is = first_least_of open_weight slots (Some next) is
+pub law_first_is_next : FirstIsNext
+law_first_is_next slots next is = first_least_of open_weight slots (Some next) is
 
 -- ---- one item more
 module _ {A : Type 0} (weight : A → Option ℤ) (xs : List A) (x : A) where
@@ -152,7 +152,7 @@ module _ {A : Type 0} (weight : A → Option ℤ) (xs : List A) (x : A) where
       by None here has = absurd cc
       by (Some y) here has = slice_get_within xs place y here
 
-  -- the last is first where it has less than the best before it, which else stays first
+  -- the last is first if it has less than the best before it, which else stays first
   last_first : (best : ℕ × ℤ) (w : ℤ) → weight x ≡ Some w → w <ℤ best.1 → IsFirstLeast weight xs best → IsFirstLeast weight (xs ++ x ∷ []) (length xs, w)
   last_first best w has less was = record { here = at_new w has; least = least; first = first }
     where

@@ -56,7 +56,7 @@ each_from P f a (suc n) each =
 
 module _ (own : Key → PointId) (Fixed : Key → Type 0) (less : (k l : Key) → Fixed k → Fixed l → (own k).0 < (own l).0 → key_cmp k l ≡ Less)
     (f : PointId → List Key) (owned : (p : PointId) → AllByRecursion (λ k. (own k ≡ p) × Fixed k) (f p)) (each : (p : PointId) → Rises (f p)) where
-  -- the keys of points in order rise where those of each point do and those of one are below those of the next
+  -- the keys of points in order rise if those of each point do and those of one are below those of the next
   rises_over : (a n : ℕ) → Rises (flat_map f (points a n))
   rises_over a zero = tt
   rises_over a (suc n) = rises-append (f (record { 0 = a })) (flat_map f (points (a + 1) n)) (each (record { 0 = a })) (rises_over (a + 1) n)
@@ -77,7 +77,8 @@ labels_from to n [] = tt
 labels_from to n (p ∷ ps) = by (p.0 == to.0) (each-weaker (λ (l : LinkId). n + 1 ≤ l.0) (λ (l : LinkId). n ≤ l.0) (λ l more. omega arith) (labels to (n + 1) ps) (labels_from to (n + 1) ps))
   where
     by : (b : Bool) → AllByRecursion (λ (l : LinkId). n ≤ l.0) (labels to (n + 1) ps)
-        → AllByRecursion (λ (l : LinkId). n ≤ l.0) (map (λ (e : ℕ × PointId). record { 0 = e.0 }) (cond b ((n, p) ∷ filter (λ (e : ℕ × PointId). e.1.0 == to.0) (enumerate_from (n + 1) ps)) (filter (λ (e : ℕ × PointId). e.1.0 == to.0) (enumerate_from (n + 1) ps))))
+        → AllByRecursion (λ (l : LinkId). n ≤ l.0) (map (λ (e : ℕ × PointId). record { 0 = e.0 }) (cond b ((n, p) ∷ filter (λ (e : ℕ × PointId). e.1.0 == to.0) (enumerate_from (n + 1) ps))
+        (filter (λ (e : ℕ × PointId). e.1.0 == to.0) (enumerate_from (n + 1) ps))))
     by true rest = (omega arith, rest)
     by false rest = rest
 
@@ -86,10 +87,12 @@ label_keys_rise from to n [] = tt
 label_keys_rise from to n (p ∷ ps) = by (p.0 == to.0) (label_keys_rise from to (n + 1) ps) (labels_from to (n + 1) ps)
   where
     by : (b : Bool) → Rises (map (labelled_key from to) (labels to (n + 1) ps)) → AllByRecursion (λ (l : LinkId). n + 1 ≤ l.0) (labels to (n + 1) ps)
-        → Rises (map (labelled_key from to) (map (λ (e : ℕ × PointId). record { 0 = e.0 }) (cond b ((n, p) ∷ filter (λ (e : ℕ × PointId). e.1.0 == to.0) (enumerate_from (n + 1) ps)) (filter (λ (e : ℕ × PointId). e.1.0 == to.0) (enumerate_from (n + 1) ps)))))
+        → Rises (map (labelled_key from to) (map (λ (e : ℕ × PointId). record { 0 = e.0 }) (cond b ((n, p) ∷ filter (λ (e : ℕ × PointId). e.1.0 == to.0) (enumerate_from (n + 1) ps))
+        (filter (λ (e : ℕ × PointId). e.1.0 == to.0) (enumerate_from (n + 1) ps)))))
     by true rest above = (
       each-map (λ l. key_cmp (labelled_key from to (record { 0 = n })) l ≡ Less) (labelled_key from to) (labels to (n + 1) ps)
-          (each-weaker (λ (l : LinkId). n + 1 ≤ l.0) (λ (l : LinkId). key_cmp (labelled_key from to (record { 0 = n })) (labelled_key from to l) ≡ Less) (λ l more. less_by_label from to (record { 0 = n }) l (omega arith)) (labels to (n + 1) ps) above),
+          (each-weaker (λ (l : LinkId). n + 1 ≤ l.0) (λ (l : LinkId). key_cmp (labelled_key from to (record { 0 = n })) (labelled_key from to l) ≡ Less) (λ l more. less_by_label from to (record { 0 = n }) l (omega arith))
+          (labels to (n + 1) ps) above),
       rest,
     )
     by false rest above = rest
@@ -97,7 +100,8 @@ label_keys_rise from to n (p ∷ ps) = by (p.0 == to.0) (label_keys_rise from to
 -- ---- the keys between two points, of a row, and all of them
 keys_between_rise : (shape : Shape) (to from : PointId) → Rises (keys_between shape to from)
 keys_between_rise shape to from = (
-  each-map (λ l. key_cmp (ordinary_key from to) l ≡ Less) (labelled_key from to) (labels_at shape to) (each-every (λ (l : LinkId). key_cmp (ordinary_key from to) (labelled_key from to l) ≡ Less) (less_by_having_a_label from to) (labels_at shape to)),
+  each-map (λ l. key_cmp (ordinary_key from to) l ≡ Less) (labelled_key from to) (labels_at shape to) (each-every (λ (l : LinkId). key_cmp (ordinary_key from to) (labelled_key from to l) ≡ Less) (less_by_having_a_label from to)
+      (labels_at shape to)),
   label_keys_rise from to 0 shape.activations,
 )
 
@@ -109,7 +113,8 @@ row_keys_rise shape to =
     rises_over (λ k. k.from) (λ k. k.to ≡ to) (λ k l one two less. less_by_source k l (one ∙ sym two) less) (keys_between shape to) (keys_between_owned shape to) (keys_between_rise shape to) 0 shape.points
 
 pub row_keys_owned : (shape : Shape) (to : PointId) → AllByRecursion (λ k. k.to ≡ to) (row_keys shape to)
-row_keys_owned shape to = each_from (λ k. k.to ≡ to) (keys_between shape to) 0 shape.points (λ p low high. each-weaker (λ k. (k.from ≡ p) × (k.to ≡ to)) (λ k. k.to ≡ to) (λ k both. both.1) (keys_between shape to p) (keys_between_owned shape to p))
+row_keys_owned shape to = each_from (λ k. k.to ≡ to) (keys_between shape to) 0 shape.points (λ p low high. each-weaker (λ k. (k.from ≡ p) × (k.to ≡ to)) (λ k. k.to ≡ to) (λ k both. both.1) (keys_between shape to p)
+    (keys_between_owned shape to p))
 
 pub all_keys_rise : (shape : Shape) → Rises (all_keys shape)
 all_keys_rise shape =
@@ -126,7 +131,7 @@ strictly_sorted (k ∷ ks) (first, more) = (first, strictly_sorted ks more)
 abbrev pub IsLabelFrom : PointId → ℕ → List PointId → LinkId → Type 0
 IsLabelFrom to n begins l = (n ≤ l.0) × (slice_get begins (l.0 - n) ≡ Some to)
 
--- the labels after a point, and the place of that point in front where it is the target
+-- the labels after a point, with the place of that point before them if it is the target
 abbrev labels_with : Bool → PointId → ℕ → PointId → List PointId → List LinkId
 labels_with b to n p ps = map (λ (e : ℕ × PointId). record { 0 = e.0 }) (cond b ((n, p) ∷ filter (λ (e : ℕ × PointId). e.1.0 == to.0) (enumerate_from (n + 1) ps)) (filter (λ (e : ℕ × PointId). e.1.0 == to.0) (enumerate_from (n + 1) ps)))
 
@@ -194,7 +199,8 @@ row_keys_whole shape key is = by key.label refl is.labelled
         (Contains-flat_map (keys_between shape key.to) (all_points shape) key.from (ordinary_key key.from key.to) source (Contains-head (ordinary_key key.from key.to) (map (labelled_key key.from key.to) (labels_at shape key.to))))
     by (Some label) some at =
         let same : labelled_key key.from key.to label ≡ key = λ i. record { to = key.to; from = key.from; label = sym some i } in
-        let inside : Contains {X = LinkId} (labels_at shape key.to) label = let zero_more : 0 + label.0 ≡ label.0 = omega arith in subst (λ (m : ℕ). Contains {X = LinkId} (labels_at shape key.to) (record { 0 = m })) zero_more (labels_whole key.to 0 shape.activations label.0 at) in
+        let inside : Contains {X = LinkId} (labels_at shape key.to) label = let zero_more : 0 + label.0 ≡ label.0 = omega arith in
+        subst (λ (m : ℕ). Contains {X = LinkId} (labels_at shape key.to) (record { 0 = m })) zero_more (labels_whole key.to 0 shape.activations label.0 at) in
         subst (Contains (row_keys shape key.to)) same
         (Contains-flat_map (keys_between shape key.to) (all_points shape) key.from (labelled_key key.from key.to label) source
         (Contains-tail (ordinary_key key.from key.to) (map (labelled_key key.from key.to) (labels_at shape key.to)) (labelled_key key.from key.to label) (Contains-map (labelled_key key.from key.to) (labels_at shape key.to) label inside)))

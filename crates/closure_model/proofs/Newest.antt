@@ -1,4 +1,4 @@
--- The node of a key: after one node more, that there is one where the key has nodes, and what the table of the list says of it.
+-- The node of a key: after one node more, that there is one if the key has nodes, and what the table of the list says of it.
 use Rattle.std.proofs.Common.{append_assoc, append-nil, ◌≡◌, ◌≢◌, ◌<◌, ℤ, ◌≤ℤ◌, ◌<ℤ◌, Bool, true, false, not, ◌&&◌, ◌⊎◌, List, [], ◌∷◌, ◌++◌, length, get_or, Option, Some, None, refl, ap, sym, ◌∙◌, subst, inl, inr, arith}
 use Rattle.std.specs.Prelude.{slice_get, int_le, MatchOption, if◌then◌else◌}
 use Rattle.std.specs.Option.{option_map, option_map_or}
@@ -16,7 +16,7 @@ use Rattle.closure_model.specs.declared.derivation.NodeId.{NodeId}
 use Rattle.closure_model.proofs.KeyOrder.{key_test}
 use Rattle.closure_model.proofs.Lists.{Contains-map, Contains-map_from}
 use Rattle.closure_model.proofs.TableLemmas.{table_of-given, table_of-has, least-in_table_of, at_most_gives}
-use Rattle.closure_model.proofs.Basing.{at_place}
+use Rattle.closure_model.proofs.ReachedTables.{at_place}
 use Rattle.closure_model.proofs.Nodes.{before_push, at_push, push_cases, listed_at}
 
 abbrev new_id : List Node → NodeId
@@ -170,10 +170,11 @@ newest_exists shape nodes key = newest_along shape key nodes [] None (none_of_no
 
 module _ (shape : Shape) (nodes : List Node) (key : Key) where
   -- the table of a list has the keys of its nodes, each at the weight of its node
-  pub table_tells : MatchOption (weight_of (table_of shape (edges_of_nodes nodes)) key) (HasNoNode nodes key) (λ weight. (id : NodeId) × IsNodeOf nodes key id × (edge_at nodes id ≡ Some (edge_of key weight)))
-  table_tells = by (newest_exists shape nodes key)
+  pub table_matches : MatchOption (weight_of (table_of shape (edges_of_nodes nodes)) key) (HasNoNode nodes key) (λ weight. (id : NodeId) × IsNodeOf nodes key id × (edge_at nodes id ≡ Some (edge_of key weight)))
+  table_matches = by (newest_exists shape nodes key)
     where
-      by : (o : Option NodeId) × IsNewest nodes key o → MatchOption (weight_of (table_of shape (edges_of_nodes nodes)) key) (HasNoNode nodes key) (λ weight. (id : NodeId) × IsNodeOf nodes key id × (edge_at nodes id ≡ Some (edge_of key weight)))
+      by : (o : Option NodeId) × IsNewest nodes key o → MatchOption (weight_of (table_of shape (edges_of_nodes nodes)) key) (HasNoNode nodes key) (λ weight. (id : NodeId) × IsNodeOf nodes key id
+          × (edge_at nodes id ≡ Some (edge_of key weight)))
       by (None, none) =
           subst (λ o. MatchOption o (HasNoNode nodes key) (λ (weight : ℤ). (id : NodeId) × IsNodeOf nodes key id × (edge_at nodes id ≡ Some (edge_of key weight)))) (sym (none_lacking shape nodes key none)) none
       by (Some id, was) =

@@ -1,4 +1,4 @@
--- A round gives each edge that falls a node that follows, so what stood on a network stands on it afterwards.
+-- A round gives each edge that improves a node that follows, so what stood on a network stands on it afterwards.
 use Rattle.std.proofs.Common.{◌≡◌, ℕ, zero, suc, ◌+◌, ◌≤◌, ℤ, ◌≤ℤ◌, ◌<ℤ◌, ◌==◌, ◌&&◌, Bool, true, false, cond, List, [], ◌∷◌, ◌++◌, map, fold, Option, Some, None, refl, ap, sym, subst, ◌∙◌, arith}
 use Rattle.std.specs.Prelude.{slice_get, MatchOption}
 use Rattle.std.specs.Option.{option_map, option_map_or, option_and_then}
@@ -24,8 +24,8 @@ use Rattle.closure_model.specs.declared.derivation.Rule.TheVariants as node_by
 use Rattle.closure_model.specs.declared.rows.Made.{Made}
 use Rattle.closure_model.proofs.Consequences.{IsConsequence, removed, moved, crossed, joined, joined_labelled}
 use Rattle.closure_model.proofs.FirstLeast.{first_least_of}
-use Rattle.closure_model.proofs.Grounding.{IsGrounded, AreGrounded, grounded_append, grounded_none, grounded_first, grounded_rest, grounded_cons, with_made_other, AgreeAt, below_agreeing, agree_lowered}
-use Rattle.closure_model.proofs.LawProofs.{table_tells_nodes, following_keeps_standing}
+use Rattle.closure_model.proofs.GroundedEdges.{IsGrounded, AreGrounded, grounded_append, grounded_none, grounded_first, grounded_rest, grounded_cons, with_made_other, AgreeAt, below_agreeing, agree_lowered}
+use Rattle.closure_model.proofs.LawProofs.{law_tables_match_nodes, law_following_keeps_standing}
 use Rattle.closure_model.proofs.Lists.{Contains-head, Contains-tail}
 use Rattle.closure_model.proofs.Nodes.{before_push}
 use Rattle.closure_model.proofs.RowLaw.{row_result, row_is_grounded}
@@ -52,7 +52,8 @@ is_same_key_of one other same =
     rw (tos, froms) labels
 
 -- the weight for a key, at a place, is that of a node of the key
-weight_for_is : (edge : Edge) (nodes : List Node) (place : ℕ) (weight : ℤ) → weight_at (weight_for edge) nodes place ≡ Some weight → (node : Node) × (slice_get nodes place ≡ Some node) × (key_of node.edge ≡ key_of edge) × (node.edge.weight ≡ weight)
+weight_for_is : (edge : Edge) (nodes : List Node) (place : ℕ) (weight : ℤ) → weight_at (weight_for edge) nodes place ≡ Some weight → (node : Node) × (slice_get nodes place ≡ Some node) × (key_of node.edge ≡ key_of edge)
+    × (node.edge.weight ≡ weight)
 weight_for_is edge nodes place weight is = by (slice_get nodes place) refl is
   where
     one : (node : Node) (b : Bool) → is_same_key edge node.edge ≡ b → cond b (Some node.edge.weight) None ≡ Some weight → (key_of node.edge ≡ key_of edge) × (node.edge.weight ≡ weight)
@@ -87,10 +88,11 @@ node_for_is nodes edge (Some id) was = ap (option_map (λ (first : ℕ × ℤ). 
 
 -- the node of an edge of the table of a list
 pub node_of_edge : (net : Plan) (nodes : List Node) (table : Graph) (edge : Edge) → IsTableOf net nodes table → HasEdge table edge → (id : NodeId) × (node_for nodes edge ≡ Some id) × (edge_at nodes id ≡ Some edge)
-node_of_edge net nodes table edge is has = by (weight_of table (key_of edge)) has (table_tells_nodes net nodes table (key_of edge) is)
+node_of_edge net nodes table edge is has = by (weight_of table (key_of edge)) has (law_tables_match_nodes net nodes table (key_of edge) is)
   where
-    by : (o : Option ℤ) → o ≡ Some edge.weight → MatchOption o (HasNoNode nodes (key_of edge)) (λ (weight : ℤ). (id : NodeId) × IsNodeOf nodes (key_of edge) id × (edge_at nodes id ≡ Some (edge_of (key_of edge) weight))) → (id : NodeId) × (node_for nodes edge ≡ Some id) × (edge_at nodes id ≡ Some edge)
-    by None none tells = absurd cc
+    by : (o : Option ℤ) → o ≡ Some edge.weight → MatchOption o (HasNoNode nodes (key_of edge)) (λ (weight : ℤ). (id : NodeId) × IsNodeOf nodes (key_of edge) id × (edge_at nodes id ≡ Some (edge_of (key_of edge) weight)))
+        → (id : NodeId) × (node_for nodes edge ≡ Some id) × (edge_at nodes id ≡ Some edge)
+    by None none statement = absurd cc
     by (Some weight) some (id, was, at) =
         let same : weight ≡ edge.weight = same_Some weight edge.weight some in
         (id, node_for_is nodes edge (Some id) was, at ∙ ap (λ (w : ℤ). Some (edge_of (key_of edge) w)) same)
@@ -116,7 +118,7 @@ goes_on_edge before now id edge on at = by (slice_get before id.0) refl at
     by None here is = absurd cc
     by (Some node) here is = rw (on id.0 node here) is
 
--- ---- a node for an edge that falls
+-- ---- a node for an edge that improves
 -- the rule of the node, and that it follows
 pub record HasRule (net : Plan) (before now : List Node) (one : Made) : Type 0 where
   pub rule : Rule
@@ -153,10 +155,11 @@ module _ (net : Plan) (table : Graph) (before now : List Node) (on : GoesOn befo
         given = rw (first_now, at) is;
       }
 
-pub rule_exists : (net : Plan) (table : Graph) (before : List Node) (support : Support) (one : Made) → GoesOn before support.nodes → IsTableOf net before table → IsTableOf net support.nodes support.table → IsGrounded net table support.table one → HasRule net before support.nodes one
+pub rule_exists : (net : Plan) (table : Graph) (before : List Node) (support : Support) (one : Made) → GoesOn before support.nodes → IsTableOf net before table → IsTableOf net support.nodes support.table
+    → IsGrounded net table support.table one → HasRule net before support.nodes one
 rule_exists net table before support one on old new grounded = rule_of net table before support.nodes on old support.table new one grounded.premise grounded.follows grounded.has
 
--- ---- the nodes of a list of edges that fall
+-- ---- the nodes of a list of edges that improve
 pub with_one_is : (net : Plan) (before : List Node) (support : Support) (one : Made) (has : HasRule net before support.nodes one) → with_one before support one ≡ with_node support (record { rule = has.rule; edge = one.edge })
 with_one_is net before support one has = ap (λ (o : Option Rule). option_map_or (λ rule. with_node support (record { rule = rule; edge = one.edge })) o support) has.is
 
@@ -166,13 +169,14 @@ pub record StandsAfter (net : Plan) (before : List Node) (support : Support) (ta
   pub on : GoesOn before support.nodes
   pub table_is : support.table ≡ table
 
-pub one_stands : (net : Plan) (table : Graph) (before : List Node) (support : Support) (now : Graph) (one : Made) → IsTableOf net before table → StandsAfter net before support now → IsGrounded net table now one → StandsAfter net before (with_one before support one) (lowered now one.edge)
+pub one_stands : (net : Plan) (table : Graph) (before : List Node) (support : Support) (now : Graph) (one : Made) → IsTableOf net before table → StandsAfter net before support now → IsGrounded net table now one
+    → StandsAfter net before (with_one before support one) (lowered now one.edge)
 one_stands net table before support now one old was grounded =
     let here : IsGrounded net table support.table one = subst (λ (t : Graph). IsGrounded net table t one) (sym was.table_is) grounded in
     let has = rule_exists net table before support one was.on old was.stands.table here in
     let node : Node = record { rule = has.rule; edge = one.edge } in
     subst (λ (s : Support). StandsAfter net before s (lowered now one.edge)) (sym (with_one_is net before support one has))
-    (record { stands = following_keeps_standing net support node was.stands has.given; on = goes_on_push before support.nodes node was.on; table_is = ap (λ (t : Graph). lowered t one.edge) was.table_is })
+    (record { stands = law_following_keeps_standing net support node was.stands has.given; on = goes_on_push before support.nodes node was.on; table_is = ap (λ (t : Graph). lowered t one.edge) was.table_is })
 
 pub all_stand : (net : Plan) (table : Graph) (before : List Node) (support : Support) (now : Graph) (made : List Made) → IsTableOf net before table → StandsAfter net before support now → AreGrounded net table now made
     → StandsAfter net before (fold (with_one before) support made) (with_made now made)

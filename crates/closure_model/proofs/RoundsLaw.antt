@@ -1,4 +1,4 @@
--- Rounds end in one way; what they make stands on the network; and where they close the table is the closure.
+-- Rounds end in one way; what they make stands on the network; and if they close the table is the closure.
 use Rattle.std.proofs.Common.{◌≡◌, ℕ, suc, List, map, refl, ap, sym, subst, ◌∙◌}
 use Rattle.std.proofs.lemmas.Option.{same_Some}
 use Rattle.net_model.specs.Network.{Plan, IsPlan}
@@ -11,7 +11,7 @@ use Rattle.closure_model.specs.ReferenceRound.{round_made, after_round}
 use Rattle.closure_model.specs.ReferenceRounds.{Ending, closed, looped, RoundsEnd, in_cycle, in_order, after_one, RoundsEndInOneWay, RoundsKeepStanding, RoundsThatCloseGiveTheClosure, RoundsStand}
 use Rattle.closure_model.specs.Tables.{Graph, IsAtMost}
 use Rattle.closure_model.specs.declared.rows.Made.{Made}
-use Rattle.closure_model.proofs.RoundClosing.{standing_fits, standing_sound, round_gives_closure}
+use Rattle.closure_model.proofs.RoundClosure.{standing_fits, standing_sound, round_gives_closure}
 use Rattle.closure_model.proofs.RoundLaw.{StandsAfter, all_stand, goes_on_itself, round_is_grounded}
 use Rattle.closure_model.proofs.TableLemmas.{IsAtMost-itself, IsAtMost-trans, all_lowered-at_most}
 
@@ -21,26 +21,26 @@ round_stands_after net support plan stands =
     (record { stands = stands; on = goes_on_itself support.nodes; table_is = refl })
     (round_is_grounded net support.table plan (standing_fits net plan support stands) (standing_sound net plan support stands))
 
-pub rounds_keep_standing : RoundsKeepStanding
-rounds_keep_standing net support plan stands =
+pub law_rounds_keep_standing : RoundsKeepStanding
+law_rounds_keep_standing net support plan stands =
     let after = round_stands_after net support plan stands in
     (after.stands, subst (λ (t : Graph). IsAtMost t support.table) (sym after.table_is) (all_lowered-at_most support.table (map (λ (one : Made). one.edge) (round_made net support.table))))
 
-pub rounds_stand : RoundsStand
-rounds_stand net start after rounds ending plan stands (in_cycle _ first left) = (stands, IsAtMost-itself start.table)
-rounds_stand net start after rounds ending plan stands (in_order _ left none) = (stands, IsAtMost-itself start.table)
-rounds_stand net start after rounds ending plan stands (after_one _ _ more _ left some rest) =
-    let (here, lower) = rounds_keep_standing net start plan stands in
-    let (there, lowest) = rounds_stand net (after_round net start) after more ending plan here rest in
+pub law_rounds_stand : RoundsStand
+law_rounds_stand net start after rounds ending plan stands (in_cycle _ first left) = (stands, IsAtMost-itself start.table)
+law_rounds_stand net start after rounds ending plan stands (in_order _ left none) = (stands, IsAtMost-itself start.table)
+law_rounds_stand net start after rounds ending plan stands (after_one _ _ more _ left some rest) =
+    let (here, lower) = law_rounds_keep_standing net start plan stands in
+    let (there, lowest) = law_rounds_stand net (after_round net start) after more ending plan here rest in
     (there, IsAtMost-trans after.table (after_round net start).table start.table lowest lower)
 
 closes : (net : Plan) (start after : Support) (rounds : ℕ) (ending : Ending) (order : List PointId) → ending ≡ closed order → IsPlan net → StandsOn net start → RoundsEnd net start rounds after ending → IsClosure net after.table
 closes net start after rounds ending order is plan stands (in_cycle _ first left) = absurd cc
 closes net start after rounds ending order is plan stands (in_order _ left none) = round_gives_closure net plan start stands none
-closes net start after rounds ending order is plan stands (after_one _ _ more _ left some rest) = closes net (after_round net start) after more ending order is plan (rounds_keep_standing net start plan stands).0 rest
+closes net start after rounds ending order is plan stands (after_one _ _ more _ left some rest) = closes net (after_round net start) after more ending order is plan (law_rounds_keep_standing net start plan stands).0 rest
 
-pub rounds_that_close : RoundsThatCloseGiveTheClosure
-rounds_that_close net start after rounds order plan stands ends = closes net start after rounds (closed order) order refl plan stands ends
+pub law_rounds_that_close : RoundsThatCloseGiveTheClosure
+law_rounds_that_close net start after rounds order plan stands ends = closes net start after rounds (closed order) order refl plan stands ends
 
 -- the same rounds
 record AreSame (n m : ℕ) (one two : Support) (ending other : Ending) : Type 0 where
@@ -63,5 +63,5 @@ one_way net start one two n m ending other (after_one _ _ more _ none some rest)
     let same = one_way net (after_round net start) one two more less ending other rest rest' in
     record { count = ap suc same.count; support = same.support; end = same.end }
 
-pub rounds_end_in_one_way : RoundsEndInOneWay
-rounds_end_in_one_way net start one two n m ending other first second = let same = one_way net start one two n m ending other first second in (same.count, same.support, same.end)
+pub law_rounds_end_in_one_way : RoundsEndInOneWay
+law_rounds_end_in_one_way net start one two n m ending other first second = let same = one_way net start one two n m ending other first second in (same.count, same.support, same.end)

@@ -63,11 +63,13 @@ module _ (net : Plan) (table : Graph) (to : PointId) (plan : IsPlan net) (fits :
   in_row_there _ (by_lower_case name second edge derived is) =
       let gives = lower_case_gives net name second edge is in
       let same = gives.is in
-      there_from second edge (in_row_there second derived) (subst (λ (e : Edge). e.from.0 < table.shape.points) same (link_begins name gives.link gives.declared)) (ap (λ (e : Edge). e.to) (sym same)) (inr (ap (λ (e : Edge). e.label) (sym same)))
+      there_from second edge (in_row_there second derived) (subst (λ (e : Edge). e.from.0 < table.shape.points) same (link_begins name gives.link gives.declared)) (ap (λ (e : Edge). e.to) (sym same))
+      (inr (ap (λ (e : Edge). e.label) (sym same)))
   in_row_there _ (by_cross_case name second edge derived is) =
       let gives = cross_case_gives net name second edge is in
       let same = gives.is in
-      there_from second edge (in_row_there second derived) (subst (λ (e : Edge). e.from.0 < table.shape.points) same (link_begins name gives.link gives.declared)) (ap (λ (e : Edge). e.to) (sym same)) (inr (ap (λ (e : Edge). e.label) (sym same)))
+      there_from second edge (in_row_there second derived) (subst (λ (e : Edge). e.from.0 < table.shape.points) same (link_begins name gives.link gives.declared)) (ap (λ (e : Edge). e.to) (sym same))
+      (inr (ap (λ (e : Edge). e.label) (sym same)))
   in_row_there _ (by_removal premise edge derived is) =
       let gives = removal_gives net premise edge is in
       let same = gives.is in

@@ -16,7 +16,7 @@ use Rattle.closure_model.proofs.Weights.{le_refl}
 use Rattle.closure_model.proofs.Slots.{some_of_map, key_in, IsMet}
 use Rattle.closure_model.proofs.KeyLists.{row_keys_owned, row_keys_whole}
 use Rattle.closure_model.proofs.BaseLemmas.{slice_get-contained}
-use Rattle.closure_model.proofs.RowSettling.{IsPartly}
+use Rattle.closure_model.proofs.SettledSlots.{IsPartly}
 
 module _ (net : Plan) (table : Graph) (to : PointId) (plan : IsPlan net) (fits : IsFor net table) (sound : IsGraph table) where
   -- ---- the row as the table has it
@@ -78,16 +78,16 @@ module _ (net : Plan) (table : Graph) (to : PointId) (plan : IsPlan net) (fits :
       keys = first_keys;
       derivable = first_derivable;
       table_met = first_met;
-      unfallen = λ place slot here none. weight_of_first slot (first_slot place slot here);
-      fallen = λ place slot why here some. absurd (never_fell slot (first_slot place slot here) why some);
+      unimproved = λ place slot here none. weight_of_first slot (first_slot place slot here);
+      improvements = λ place slot why here some. absurd (never_improved slot (first_slot place slot here) why some);
     };
     has = λ place slot here is. absurd (never_settled slot (first_slot place slot here) is);
     ordered = λ place other one two weight more one_here two_here is one_has is_not two_has. absurd (never_settled one (first_slot place one one_here) is);
     closed = λ place slot weight here is has made inside. absurd (never_settled slot (first_slot place slot here) is);
   }
     where
-      never_fell : (slot : Slot) → IsFirstSlot slot → (why : Why) → slot.why ≡ Some why → ⊥
-      never_fell slot first why some = let none : None ≡ slot.why = ap (λ (s : Slot). s.why) first.is in absurd cc
+      never_improved : (slot : Slot) → IsFirstSlot slot → (why : Why) → slot.why ≡ Some why → ⊥
+      never_improved slot first why some = let none : None ≡ slot.why = ap (λ (s : Slot). s.why) first.is in absurd cc
 
       never_settled : (slot : Slot) → IsFirstSlot slot → slot.settled ≡ true → ⊥
       never_settled slot first is = let not : false ≡ slot.settled = ap (λ (s : Slot). s.settled) first.is in absurd cc

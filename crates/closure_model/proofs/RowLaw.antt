@@ -1,4 +1,5 @@
--- The reference row is the least row: whatever is derivable in the row is met when all is settled, and what fell is derivable there.
+-- The reference row is the least row: whatever is derivable in the row is saturated when all is settled, and what improved is derivable
+-- there.
 use Rattle.std.proofs.Common.{◌≡◌, ℕ, zero, suc, ◌≤◌, ℤ, ◌<ℤ◌, true, false, ◌⊎◌, [], length, map, Option, Some, None, refl, ap, sym, subst, ◌∙◌, inl, inr, arith}
 use Rattle.std.specs.Prelude.{slice_get}
 use Rattle.std.specs.List.{Contains, AllPairs}
@@ -13,16 +14,16 @@ use Rattle.closure_model.specs.declared.rows.Slot.{Slot}
 use Rattle.closure_model.specs.declared.rows.Why.{Why}
 use Rattle.closure_model.proofs.Weights.{same_weight, le_then}
 use Rattle.closure_model.proofs.Slots.{key_in, IsMet}
-use Rattle.closure_model.proofs.Grounding.{AreGrounded, grounded_none}
+use Rattle.closure_model.proofs.GroundedEdges.{AreGrounded, grounded_none}
 use Rattle.closure_model.proofs.FirstLeast.{FirstIs, first_least-is}
 use Rattle.closure_model.proofs.RowSteps.{unsettled, length-unsettled, slot_there, after_slot, unsettled-after, settled_times-none, settled_times-some}
 use Rattle.closure_model.proofs.TableLemmas.{all_lowered-at_most, all_lowered-has, all_lowered-cases, at_most_below, at_most_from, at_most_gives}
 use Rattle.std.proofs.Math.ListN.{length-map}
 use Rattle.closure_model.proofs.BaseLemmas.{all_contained}
 use Rattle.closure_model.proofs.Lists.{Contains-map, Contains-map_from, Contains-none}
-use Rattle.closure_model.proofs.RowMaking.{IsApart, IsMaking, IsNotAbove, later_making}
+use Rattle.closure_model.proofs.RowEdges.{IsApart, IsMaking, IsNotAbove, later_making}
 use Rattle.closure_model.proofs.RowFirst.{first_partly, first_slot, slot_from}
-use Rattle.closure_model.proofs.RowMet.{all_met, is_settled}
+use Rattle.closure_model.proofs.SaturatedRows.{all_met, is_settled}
 
 module _ (net : Plan) (table : Graph) (to : PointId) (plan : IsPlan net) (fits : IsFor net table) (sound : IsGraph table) where
   -- ---- the whole row
@@ -70,14 +71,14 @@ module _ (net : Plan) (table : Graph) (to : PointId) (plan : IsPlan net) (fits :
     in_order = λ i j d before inside. absurd (omega arith);
     grounded = grounded_none net table table;
     stand = λ place slot weight here is has. absurd (never place slot here is);
-    ready = λ place slot why weight here is some has. absurd (never_fell place slot here why some);
+    ready = λ place slot why weight here is some has. absurd (never_improved place slot here why some);
   }
     where
       never : (place : ℕ) (slot : Slot) → slice_get (first_slots table to) place ≡ Some slot → slot.settled ≡ true → ⊥
       never place slot here is = let first = first_slot net table to plan fits sound place slot here in let not : false ≡ slot.settled = ap (λ (s : Slot). s.settled) first.is in absurd cc
 
-      never_fell : (place : ℕ) (slot : Slot) → slice_get (first_slots table to) place ≡ Some slot → (why : Why) → slot.why ≡ Some why → ⊥
-      never_fell place slot here why some = let first = first_slot net table to plan fits sound place slot here in let none : None ≡ slot.why = ap (λ (s : Slot). s.why) first.is in absurd cc
+      never_improved : (place : ℕ) (slot : Slot) → slice_get (first_slots table to) place ≡ Some slot → (why : Why) → slot.why ≡ Some why → ⊥
+      never_improved place slot here why some = let first = first_slot net table to plan fits sound place slot here in let none : None ≡ slot.why = ap (λ (s : Slot). s.why) first.is in absurd cc
 
   whole : IsMaking net table to plan fits sound (settled_row net table to) × IsAllSettled (settled_row net table to).slots
   whole =
@@ -107,14 +108,15 @@ module _ (net : Plan) (table : Graph) (to : PointId) (plan : IsPlan net) (fits :
       by : (met : IsMet to (settled_row net table to).slots edge) → (o : Option Why) → met.slot.why ≡ o → HasAtMost (with_made table (reference_row net table to)) edge
       by met None none =
           let (making, all) = whole in
-          let old : weight_of table (key_of edge) ≡ Some met.weight = ap (weight_of table) (sym met.of_key) ∙ (sym (making.partly.row.unfallen met.place met.slot met.here none) ∙ met.has) in
+          let old : weight_of table (key_of edge) ≡ Some met.weight = ap (weight_of table) (sym met.of_key) ∙ (sym (making.partly.row.unimproved met.place met.slot met.here none) ∙ met.has) in
           at_most_below (with_made table (reference_row net table to)) table edge (all_lowered-at_most table (map (λ (one : Made). one.edge) (reference_row net table to))) (at_most_from table edge met.weight old met.less)
       by met (Some why) some =
           let (making, all) = whole in
           let settled = is_settled net table to plan fits sound (settled_row net table to).slots making.partly all met.place met.slot met.weight met.here met.has in
           let one : Made = record { edge = edge_in to met.slot met.weight; why = why } in
           let inside : Contains (reference_row net table to) one = making.listed met.place met.slot why met.weight met.here settled some met.has in
-          let there : HasAtMost (with_made table (reference_row net table to)) (edge_in to met.slot met.weight) = all_lowered-has table (map (λ (one : Made). one.edge) (reference_row net table to)) (edge_in to met.slot met.weight) (Contains-map (λ (one : Made). one.edge) (reference_row net table to) one inside) in
+          let there : HasAtMost (with_made table (reference_row net table to)) (edge_in to met.slot met.weight) =
+          all_lowered-has table (map (λ (one : Made). one.edge) (reference_row net table to)) (edge_in to met.slot met.weight) (Contains-map (λ (one : Made). one.edge) (reference_row net table to) one inside) in
           let (weight, has, less) = at_most_gives (with_made table (reference_row net table to)) (edge_in to met.slot met.weight) there in
           at_most_from (with_made table (reference_row net table to)) edge weight (ap (weight_of (with_made table (reference_row net table to))) (sym met.of_key) ∙ has) (le_then weight met.weight edge.weight less met.less)
 
@@ -131,11 +133,11 @@ module _ (net : Plan) (table : Graph) (to : PointId) (plan : IsPlan net) (fits :
   row_ends : (one : Made) → Contains (reference_row net table to) one → one.edge.to ≡ to
   row_ends one inside = let (making, all) = whole in ap (λ (e : Edge). e.to) (sym (making.each one inside).is)
 
-  row_falls : (one : Made) → Contains (reference_row net table to) one → IsBelow table one.edge
-  row_falls one inside old has =
+  row_improves : (one : Made) → Contains (reference_row net table to) one → IsBelow table one.edge
+  row_improves one inside old has =
       let (making, all) = whole in
       let from = making.each one inside in
-      let (weight, is, below) = making.partly.row.fallen from.place from.slot one.why from.here from.why in
+      let (weight, is, below) = making.partly.row.improvements from.place from.slot one.why from.here from.why in
       let weights : weight ≡ one.edge.weight = same_weight weight from.weight (sym is ∙ from.has) ∙ ap (λ (e : Edge). e.weight) from.is in
       let key : key_of one.edge ≡ key_in to from.slot = ap key_of (sym from.is) in
       subst (λ (w : ℤ). w <ℤ old) weights (below old (ap (weight_of table) (sym key) ∙ has))
@@ -153,10 +155,10 @@ module _ (net : Plan) (table : Graph) (to : PointId) (plan : IsPlan net) (fits :
   row_result = record {
     least = row_is_least;
     ends = all_contained (λ (one : Made). one.edge.to ≡ to) (reference_row net table to) row_ends;
-    falls = all_contained (λ (one : Made). IsBelow table one.edge) (reference_row net table to) row_falls;
+    descends = all_contained (λ (one : Made). IsBelow table one.edge) (reference_row net table to) row_improves;
     once = once_all;
     in_order = in_order_all;
   }
 
-pub rows_are_least : RowsAreLeast
-rows_are_least net table to plan fits sound = row_result net table to plan fits sound
+pub law_rows_are_least : RowsAreLeast
+law_rows_are_least net table to plan fits sound = row_result net table to plan fits sound

@@ -6,10 +6,10 @@ use Rattle.net_model.specs.Network.{Plan}
 use Rattle.net_model.specs.declared.ids.PointId.{PointId}
 use Rattle.closure_model.specs.Least.{weight_at}
 use Rattle.closure_model.specs.Tables.{Graph}
-use Rattle.closure_model.specs.ReferenceRow.{offered, edge_in, open_weight, consequences, slots_after, Making, fell, settled_at, settled_times, next_slot}
+use Rattle.closure_model.specs.ReferenceRow.{relaxed, edge_in, open_weight, consequences, slots_after, Making, improved, settled_at, settled_times, next_slot}
 use Rattle.closure_model.specs.declared.rows.Made.{Made}
 use Rattle.closure_model.specs.declared.rows.Slot.{Slot}
-use Rattle.closure_model.proofs.Slots.{offered_one, change_settled, offered_change}
+use Rattle.closure_model.proofs.Slots.{relaxed_one, change_settled, relaxed_change}
 
 -- how many slots are not settled
 abbrev pub unsettled : List Slot → ℕ
@@ -25,17 +25,17 @@ unsettled-set (x ∷ xs) zero old new here was is =
     omega arith
 unsettled-set (x ∷ xs) (suc k) old new here was is = let rest = unsettled-set xs k old new here was is in omega arith
 
-unsettled-offered : (slots : List Slot) (made : Made) → unsettled (offered slots made) ≡ unsettled slots
-unsettled-offered [] made = refl
-unsettled-offered (x ∷ xs) made =
-    let rest = unsettled-offered xs made in
-    let here : (offered_one made x).settled ≡ x.settled = change_settled made x (offered_one made x) (offered_change made x) in
-    let same : cond {A = ℕ} (offered_one made x).settled 0 1 ≡ cond {A = ℕ} x.settled 0 1 = ap (λ (b : Bool). cond {A = ℕ} b 0 1) here in
+unsettled-relaxed : (slots : List Slot) (made : Made) → unsettled (relaxed slots made) ≡ unsettled slots
+unsettled-relaxed [] made = refl
+unsettled-relaxed (x ∷ xs) made =
+    let rest = unsettled-relaxed xs made in
+    let here : (relaxed_one made x).settled ≡ x.settled = change_settled made x (relaxed_one made x) (relaxed_change made x) in
+    let same : cond {A = ℕ} (relaxed_one made x).settled 0 1 ≡ cond {A = ℕ} x.settled 0 1 = ap (λ (b : Bool). cond {A = ℕ} b 0 1) here in
     omega arith
 
-unsettled-offers : (list : List Made) (slots : List Slot) → unsettled (fold offered slots list) ≡ unsettled slots
-unsettled-offers [] slots = refl
-unsettled-offers (made ∷ list) slots = unsettled-offers list (offered slots made) ∙ unsettled-offered slots made
+unsettled-relaxes : (list : List Made) (slots : List Slot) → unsettled (fold relaxed slots list) ≡ unsettled slots
+unsettled-relaxes [] slots = refl
+unsettled-relaxes (made ∷ list) slots = unsettled-relaxes list (relaxed slots made) ∙ unsettled-relaxed slots made
 
 pub length-unsettled : (slots : List Slot) → unsettled slots ≤ length slots
 length-unsettled [] = omega arith
@@ -66,14 +66,14 @@ slot_there slots next is = by (slice_get slots next.0) refl is
 module _ (net : Plan) (table : Graph) (to : PointId) where
   -- the row after a slot was settled
   abbrev pub after_slot : Making → ℕ × ℤ → Slot → Making
-  after_slot making next slot = record { slots = slots_after net table to making.slots next.0 slot next.1; made = making.made ++ fell to slot next.1 }
+  after_slot making next slot = record { slots = slots_after net table to making.slots next.0 slot next.1; made = making.made ++ improved to slot next.1 }
 
   pub settled_at_slot : (making : Making) (next : ℕ × ℤ) (slot : Slot) → slice_get making.slots next.0 ≡ Some slot → settled_at net table to making next ≡ after_slot making next slot
   settled_at_slot making next slot here = rw here refl
 
   pub unsettled-after : (making : Making) (next : ℕ × ℤ) (slot : Slot) → slice_get making.slots next.0 ≡ Some slot → slot.settled ≡ false → unsettled (after_slot making next slot).slots + 1 ≡ unsettled making.slots
   unsettled-after making next slot here is_open =
-      let offers = unsettled-offers (consequences net table (edge_in to slot next.1)) (slice_set making.slots next.0 (record slot { settled = true })) in
+      let relaxes = unsettled-relaxes (consequences net table (edge_in to slot next.1)) (slice_set making.slots next.0 (record slot { settled = true })) in
       let marked = unsettled-set making.slots next.0 slot (record slot { settled = true }) here is_open refl in
       omega arith
 
@@ -81,5 +81,6 @@ module _ (net : Plan) (table : Graph) (to : PointId) where
   settled_times-none zero making none = refl
   settled_times-none (suc times) making none = ap (λ (o : Option (ℕ × ℤ)). option_map_or (λ next. settled_times net table to times (settled_at net table to making next)) o making) none
 
-  pub settled_times-some : (times : ℕ) (making : Making) (next : ℕ × ℤ) (slot : Slot) → next_slot making.slots ≡ Some next → slice_get making.slots next.0 ≡ Some slot → settled_times net table to (suc times) making ≡ settled_times net table to times (after_slot making next slot)
+  pub settled_times-some : (times : ℕ) (making : Making) (next : ℕ × ℤ) (slot : Slot) → next_slot making.slots ≡ Some next → slice_get making.slots next.0 ≡ Some slot
+      → settled_times net table to (suc times) making ≡ settled_times net table to times (after_slot making next slot)
   settled_times-some times making next slot some here = rw some (ap (settled_times net table to times) (settled_at_slot making next slot here))

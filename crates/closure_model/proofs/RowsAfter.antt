@@ -28,8 +28,8 @@ module _ (net : Plan) (before : Graph) (plan : IsPlan net) (fits : IsFor net bef
     where
       by : Contains (map (λ (one : Made). one.edge) (round_made net before)) edge ⊎ HasEdge before edge → IsInRow net before edge.to edge
       by (inr old) = of_table edge old refl
-      by (inl fallen) =
-          let (one, inside, is) = Contains-map_from (λ (one : Made). one.edge) (round_made net before) edge fallen in
+      by (inl improvements) =
+          let (one, inside, is) = Contains-map_from (λ (one : Made). one.edge) (round_made net before) edge improvements in
           let (to, at, made) = Contains-flat_map_from (reference_row net before) (all_points before.shape) one inside in
           let derived : IsInRow net before to edge = subst (IsInRow net before to) is (row_derived net before to plan fits sound one made) in
           subst (λ (p : PointId). IsInRow net before p edge) (sym (in_row_there net before to plan fits sound edge derived).ends) derived
@@ -44,22 +44,23 @@ module _ (net : Plan) (before : Graph) (plan : IsPlan net) (fits : IsFor net bef
       let (lower, holds, under) = at_most_gives now (edge_of (key_of edge) weight) (by inside weight (all_lowered-cases before (map (λ (one : Made). one.edge) (reference_row net before to)) (edge_of (key_of edge) weight) is)) in
       at_most_from now edge lower holds (le_then lower weight edge.weight under less)
     where
-      by : to.0 < before.shape.points → (weight : ℤ) → Contains (map (λ (one : Made). one.edge) (reference_row net before to)) (edge_of (key_of edge) weight) ⊎ HasEdge before (edge_of (key_of edge) weight) → HasAtMost now (edge_of (key_of edge) weight)
+      by : to.0 < before.shape.points → (weight : ℤ) → Contains (map (λ (one : Made). one.edge) (reference_row net before to)) (edge_of (key_of edge) weight) ⊎ HasEdge before (edge_of (key_of edge) weight)
+          → HasAtMost now (edge_of (key_of edge) weight)
       by inside weight (inr old) = all_lowered-at_most before (map (λ (one : Made). one.edge) (round_made net before)) (edge_of (key_of edge) weight) old
-      by inside weight (inl fallen) =
-          let (one, made, is) = Contains-map_from (λ (one : Made). one.edge) (reference_row net before to) (edge_of (key_of edge) weight) fallen in
+      by inside weight (inl improvements) =
+          let (one, made, is) = Contains-map_from (λ (one : Made). one.edge) (reference_row net before to) (edge_of (key_of edge) weight) improvements in
           let among : Contains (round_made net before) one = Contains-flat_map (reference_row net before) (all_points before.shape) to one (all_points_stand before.shape to inside) made in
           all_lowered-has before (map (λ (one : Made). one.edge) (round_made net before)) (edge_of (key_of edge) weight)
           (subst (Contains (map (λ (one : Made). one.edge) (round_made net before))) is (Contains-map (λ (one : Made). one.edge) (round_made net before) one among))
 
-  -- where nothing fell in the row of a point, what ends in it was there before
+  -- if nothing improved in the row of a point, what ends in it was there before
   pub was_there : (edge : Edge) → HasEdge now edge → reference_row net before edge.to ≡ [] → HasEdge before edge
   was_there edge has nothing = by (all_lowered-cases before (map (λ (one : Made). one.edge) (round_made net before)) edge has)
     where
       by : Contains (map (λ (one : Made). one.edge) (round_made net before)) edge ⊎ HasEdge before edge → HasEdge before edge
       by (inr old) = old
-      by (inl fallen) =
-          let (one, inside, is) = Contains-map_from (λ (one : Made). one.edge) (round_made net before) edge fallen in
+      by (inl improvements) =
+          let (one, inside, is) = Contains-map_from (λ (one : Made). one.edge) (round_made net before) edge improvements in
           let (to, at, made) = Contains-flat_map_from (reference_row net before) (all_points before.shape) one inside in
           let ends : to ≡ edge.to = sym (All-contains (λ (m : Made). m.edge.to ≡ to) (reference_row net before to) one (row_result net before to plan fits sound).ends made) ∙ ap (λ (e : Edge). e.to) is in
           let empty : Contains {X = Made} [] one = subst (λ (list : List Made). Contains list one) (ap (reference_row net before) ends ∙ nothing) made in

@@ -1,4 +1,4 @@
--- After a round the row of a target makes nothing unless something fell in the row of a point from which a negative ordinary edge goes
+-- After a round the row of a target makes nothing unless something improved in the row of a point from which a negative ordinary edge goes
 -- to the target.
 use Rattle.std.proofs.Common.{◌≡◌, ℤ, pos, ◌≤ℤ◌, ◌<ℤ◌, ◌-ℤ◌, true, false, List, [], ◌∷◌, Option, Some, None, refl, ap, sym, subst, ◌∙◌, arith}
 use Rattle.std.specs.Prelude.{int_lt, slice_get}
@@ -14,7 +14,7 @@ use Rattle.net_model.specs.declared.ids.LinkId.{LinkId}
 use Rattle.net_model.specs.declared.ids.PointId.{PointId}
 use Rattle.net_model.specs.declared.part.Edge.{Edge}
 use Rattle.net_model.specs.declared.part.Link.{Link}
-use Rattle.net_model.proofs.ApplyingLemmas.{removal_applies}
+use Rattle.net_model.proofs.AppliedRuleLemmas.{removal_applies}
 use Rattle.net_model.proofs.RuleLemmas.{no_case_gives, upper_case_gives, lower_case_gives, cross_case_gives, removal_gives}
 use Rattle.closure_model.specs.Keys.{Key, key_of, ordinary_key, Shape, shape_of, IsLabelAt}
 use Rattle.closure_model.specs.Orders.{goes}
@@ -24,7 +24,7 @@ use Rattle.closure_model.specs.Tables.{Graph, weight_of, HasEdge, HasAtMost, IsF
 use Rattle.closure_model.specs.declared.rows.Made.{Made}
 use Rattle.closure_model.proofs.Lists.{Contains-head}
 use Rattle.closure_model.proofs.Nodes.{listed_at}
-use Rattle.closure_model.proofs.RoundClosing.{standing_fits, standing_sound}
+use Rattle.closure_model.proofs.RoundClosure.{standing_fits, standing_sound}
 use Rattle.closure_model.proofs.RoundsLaw.{round_stands_after}
 use Rattle.closure_model.proofs.RowsAfter.{now_in_row, row_met, was_there}
 use Rattle.closure_model.proofs.RowDerivable.{in_row_there}
@@ -32,7 +32,7 @@ use Rattle.closure_model.proofs.RowLaw.{row_derived, row_result}
 use Rattle.closure_model.proofs.RuleSteps.{at_weight, no_case_of_less, upper_case_of_less, lower_case_of_less, cross_case_of_less, removal_of_less}
 use Rattle.closure_model.proofs.TableLemmas.{at_most_from, at_most_gives, has_at_most_itself}
 use Rattle.closure_model.proofs.Weights.{lt_is, lt_true, le_then, le_then_lt, not_below}
-use Rattle.closure_model.specs.RoundLaws.{RowsNeedFallenRows}
+use Rattle.closure_model.specs.RoundLaws.{RowsNeedImprovedRows}
 
 -- ---- negative ordinary edges
 pub goes_from : (table : Graph) (edge : Edge) → HasEdge table edge → edge.label ≡ None → edge.weight <ℤ pos 0 → goes table edge.from edge.to ≡ true
@@ -48,8 +48,8 @@ gone_edge table from to went = by (weight_of table (ordinary_key from to)) refl 
     by None is test = absurd cc
     by (Some weight) is test = (weight, is, lt_is weight (pos 0) test)
 
-freed_below : (x z : ℤ) → pos 1 ≤ℤ x → z <ℤ pos 0 → int_max z (pos 0 -ℤ x) <ℤ pos 0
-freed_below x z low below = grind (arith, ints, int_max_is)
+without_label_below : (x z : ℤ) → pos 1 ≤ℤ x → z <ℤ pos 0 → int_max z (pos 0 -ℤ x) <ℤ pos 0
+without_label_below x z low below = grind (arith, ints, int_max_is)
 
 module _ (net : Plan) (before : Graph) (plan : IsPlan net) (fits : IsFor net before) (sound : IsGraph before) where
   abbrev now : Graph
@@ -58,8 +58,8 @@ module _ (net : Plan) (before : Graph) (plan : IsPlan net) (fits : IsFor net bef
   abbrev in_row : (edge : Edge) → HasEdge now edge → IsInRow net before edge.to edge
   in_row = now_in_row net before plan fits sound
 
-  abbrev meets : (to : PointId) (edge : Edge) → IsInRow net before to edge → HasAtMost now edge
-  meets = row_met net before plan fits sound
+  abbrev saturates : (to : PointId) (edge : Edge) → IsInRow net before to edge → HasAtMost now edge
+  saturates = row_met net before plan fits sound
 
   -- a label is a link of the network
   link_of : (label : LinkId) (to : PointId) → IsLabelAt before.shape to (Some label) → (link : Link) × IsLinkOf net label link
@@ -84,10 +84,10 @@ module _ (net : Plan) (before : Graph) (plan : IsPlan net) (fits : IsFor net bef
           let there = in_row_there net before edge.to plan fits sound edge derived in
           let (link, declared) = link_of label edge.to (subst (IsLabelAt before.shape edge.to) labelled there.key.labelled) in
           let low : pos 1 ≤ℤ link.low = (All-contains (IsLink net) net.links link plan.links_sound (listed_at net.links label.0 link declared)).positive in
-          let freed : Edge = record edge { label = None; weight = int_max edge.weight (pos 0 -ℤ link.low) } in
-          let (weight, held, less) = at_most_gives now freed (meets edge.to freed (by_removal edge freed derived (removal_applies net edge label link declared labelled))) in
-          let under : weight <ℤ pos 0 = le_then_lt weight freed.weight (pos 0) less (freed_below link.low edge.weight low below) in
-          goes_from now (at_weight freed weight) held refl under
+          let without_label : Edge = record edge { label = None; weight = int_max edge.weight (pos 0 -ℤ link.low) } in
+          let (weight, held, less) = at_most_gives now without_label (saturates edge.to without_label (by_removal edge without_label derived (removal_applies net edge label link declared labelled))) in
+          let under : weight <ℤ pos 0 = le_then_lt weight without_label.weight (pos 0) less (without_label_below link.low edge.weight low below) in
+          goes_from now (at_weight without_label weight) held refl under
 
   -- the same edge at a greater weight
   at_more : (edge : Edge) (weight : ℤ) → weight ≤ℤ edge.weight → HasAtMost now (at_weight edge weight) → HasAtMost now edge
@@ -111,27 +111,27 @@ module _ (net : Plan) (before : Graph) (plan : IsPlan net) (fits : IsFor net bef
         let (weight, held, less) = at_most_gives now second (met second derived) in
         let lower = no_case_of_less first second edge weight less gives in
         let old = first_was_there first second weight has gives.meeting (ends_in second derived) held (le_then_lt weight second.weight (pos 0) less gives.negative) in
-        at_more edge lower.weight lower.less (meets second.to (at_weight edge lower.weight) (by_no_case first (at_weight second weight) (at_weight edge lower.weight) old (in_row (at_weight second weight) held) lower.gives))
+        at_more edge lower.weight lower.less (saturates second.to (at_weight edge lower.weight) (by_no_case first (at_weight second weight) (at_weight edge lower.weight) old (in_row (at_weight second weight) held) lower.gives))
     met _ (by_upper_case first second edge has derived is) =
         let gives = upper_case_gives first second edge is in
         let (weight, held, less) = at_most_gives now second (met second derived) in
         let lower = upper_case_of_less first second edge weight less gives in
         let old = first_was_there first second weight has gives.meeting (ends_in second derived) held (le_then_lt weight second.weight (pos 0) less gives.negative) in
-        at_more edge lower.weight lower.less (meets second.to (at_weight edge lower.weight) (by_upper_case first (at_weight second weight) (at_weight edge lower.weight) old (in_row (at_weight second weight) held) lower.gives))
+        at_more edge lower.weight lower.less (saturates second.to (at_weight edge lower.weight) (by_upper_case first (at_weight second weight) (at_weight edge lower.weight) old (in_row (at_weight second weight) held) lower.gives))
     met _ (by_lower_case name second edge derived is) =
         let (weight, held, less) = at_most_gives now second (met second derived) in
         let lower = lower_case_of_less net name second edge weight less (lower_case_gives net name second edge is) in
-        at_more edge lower.weight lower.less (meets second.to (at_weight edge lower.weight) (by_lower_case name (at_weight second weight) (at_weight edge lower.weight) (in_row (at_weight second weight) held) lower.gives))
+        at_more edge lower.weight lower.less (saturates second.to (at_weight edge lower.weight) (by_lower_case name (at_weight second weight) (at_weight edge lower.weight) (in_row (at_weight second weight) held) lower.gives))
     met _ (by_cross_case name second edge derived is) =
         let (weight, held, less) = at_most_gives now second (met second derived) in
         let lower = cross_case_of_less net name second edge weight less (cross_case_gives net name second edge is) in
-        at_more edge lower.weight lower.less (meets second.to (at_weight edge lower.weight) (by_cross_case name (at_weight second weight) (at_weight edge lower.weight) (in_row (at_weight second weight) held) lower.gives))
+        at_more edge lower.weight lower.less (saturates second.to (at_weight edge lower.weight) (by_cross_case name (at_weight second weight) (at_weight edge lower.weight) (in_row (at_weight second weight) held) lower.gives))
     met _ (by_removal premise edge derived is) =
         let (weight, held, less) = at_most_gives now premise (met premise derived) in
         let lower = removal_of_less net premise edge weight less (removal_gives net premise edge is) in
-        at_more edge lower.weight lower.less (meets premise.to (at_weight edge lower.weight) (by_removal (at_weight premise weight) (at_weight edge lower.weight) (in_row (at_weight premise weight) held) lower.gives))
+        at_more edge lower.weight lower.less (saturates premise.to (at_weight edge lower.weight) (by_removal (at_weight premise weight) (at_weight edge lower.weight) (in_row (at_weight premise weight) held) lower.gives))
 
-    -- so nothing falls in the row
+    -- so nothing improves in the row
     pub row_makes_nothing : reference_row net now to ≡ []
     row_makes_nothing = by (reference_row net now to) refl
       where
@@ -140,11 +140,11 @@ module _ (net : Plan) (before : Graph) (plan : IsPlan net) (fits : IsFor net bef
         by (one ∷ made) is =
             let inside : Contains (reference_row net now to) one = subst (λ (list : List Made). Contains list one) (sym is) (Contains-head one made) in
             let (weight, held, less) = at_most_gives now one.edge (met one.edge (row_derived net now to plan fits_now sound_now one inside)) in
-            let falls : one.edge.weight <ℤ weight = All-contains (λ (m : Made). IsBelow now m.edge) (reference_row net now to) one (row_result net now to plan fits_now sound_now).falls inside weight held in
-            absurd (not_below weight weight refl (le_then_lt weight one.edge.weight weight less falls))
+            let descends : one.edge.weight <ℤ weight = All-contains (λ (m : Made). IsBelow now m.edge) (reference_row net now to) one (row_result net now to plan fits_now sound_now).descends inside weight held in
+            absurd (not_below weight weight refl (le_then_lt weight one.edge.weight weight less descends))
 
-pub rows_need_fallen_rows : RowsNeedFallenRows
-rows_need_fallen_rows net support to plan stands still =
+pub law_rows_need_improved_rows : RowsNeedImprovedRows
+law_rows_need_improved_rows net support to plan stands still =
     let after = round_stands_after net support plan stands in
     let fits = standing_fits net plan (after_round net support) after.stands in
     let sound = standing_sound net plan (after_round net support) after.stands in

@@ -7,7 +7,7 @@ use Rattle.net_model.specs.Network.{Plan}
 use Rattle.net_model.specs.Rules.{joined_weight, no_case, upper_case, lower_case, cross_case, removal}
 use Rattle.net_model.specs.declared.ids.LinkId.{LinkId}
 use Rattle.net_model.specs.declared.part.Edge.{Edge}
-use Rattle.net_model.proofs.ApplyingLemmas.{no_case_applies, upper_case_applies, lower_case_applies, cross_case_applies, removal_applies}
+use Rattle.net_model.proofs.AppliedRuleLemmas.{no_case_applies, upper_case_applies, lower_case_applies, cross_case_applies, removal_applies}
 use Rattle.net_model.proofs.RuleLemmas.{NoCaseGives, UpperCaseGives, LowerCaseGives, CrossCaseGives, RemovalGives}
 use Rattle.closure_model.proofs.Weights.{le_then_lt}
 
@@ -15,20 +15,20 @@ use Rattle.closure_model.proofs.Weights.{le_then_lt}
 joined_not_less : (v u : ℤ) → u ≤ℤ (int_max v (pos 0) +ℤ u)
 joined_not_less v u = grind (arith, ints, int_max_is)
 
-joined_falls : (v u w : ℤ) → w ≤ℤ u → (int_max v (pos 0) +ℤ w) ≤ℤ (int_max v (pos 0) +ℤ u)
-joined_falls v u w falls = grind (arith, ints)
+joined_decreases : (v u w : ℤ) → w ≤ℤ u → (int_max v (pos 0) +ℤ w) ≤ℤ (int_max v (pos 0) +ℤ u)
+joined_decreases v u w descends = grind (arith, ints)
 
 moved_not_less : (x u : ℤ) → pos 1 ≤ℤ x → u ≤ℤ (x +ℤ u)
 moved_not_less x u low = grind (arith, ints)
 
-moved_falls : (x u w : ℤ) → w ≤ℤ u → (x +ℤ w) ≤ℤ (x +ℤ u)
-moved_falls x u w falls = grind (arith, ints)
+moved_decreases : (x u w : ℤ) → w ≤ℤ u → (x +ℤ w) ≤ℤ (x +ℤ u)
+moved_decreases x u w descends = grind (arith, ints)
 
 max_not_less : (z y : ℤ) → z ≤ℤ int_max z y
 max_not_less z y = grind (arith, ints, int_max_is)
 
-max_falls : (z w y : ℤ) → w ≤ℤ z → int_max w y ≤ℤ int_max z y
-max_falls z w y falls = grind (arith, ints, int_max_is)
+max_decreases : (z w y : ℤ) → w ≤ℤ z → int_max w y ≤ℤ int_max z y
+max_decreases z w y descends = grind (arith, ints, int_max_is)
 
 -- ---- what every rule keeps: the conclusion is no lighter than the edge that it lengthens, ends where that one does, and has its
 -- label or none
@@ -79,31 +79,31 @@ gives_less given made edge weight is gives less = record {
 }
 
 pub no_case_of_less : (first second edge : Edge) (weight : ℤ) → weight ≤ℤ second.weight → NoCaseGives first second edge → GivesLess (no_case first (at_weight second weight)) edge
-no_case_of_less first second edge weight falls gives =
+no_case_of_less first second edge weight descends gives =
     gives_less _ _ edge (joined_weight first (at_weight second weight)) gives.is
-    (no_case_applies first (at_weight second weight) gives.first_ordinary gives.second_ordinary gives.meeting (le_then_lt weight second.weight (pos 0) falls gives.negative))
-    (joined_falls first.weight second.weight weight falls)
+    (no_case_applies first (at_weight second weight) gives.first_ordinary gives.second_ordinary gives.meeting (le_then_lt weight second.weight (pos 0) descends gives.negative))
+    (joined_decreases first.weight second.weight weight descends)
 
 pub upper_case_of_less : (first second edge : Edge) (weight : ℤ) → weight ≤ℤ second.weight → UpperCaseGives first second edge → GivesLess (upper_case first (at_weight second weight)) edge
-upper_case_of_less first second edge weight falls gives =
+upper_case_of_less first second edge weight descends gives =
     gives_less _ _ edge (joined_weight first (at_weight second weight)) gives.is
-    (upper_case_applies first (at_weight second weight) gives.label gives.first_ordinary gives.second_labelled gives.meeting (le_then_lt weight second.weight (pos 0) falls gives.negative))
-    (joined_falls first.weight second.weight weight falls)
+    (upper_case_applies first (at_weight second weight) gives.label gives.first_ordinary gives.second_labelled gives.meeting (le_then_lt weight second.weight (pos 0) descends gives.negative))
+    (joined_decreases first.weight second.weight weight descends)
 
 pub lower_case_of_less : (net : Plan) (name : LinkId) (second edge : Edge) (weight : ℤ) → weight ≤ℤ second.weight → LowerCaseGives net name second edge → GivesLess (lower_case net name (at_weight second weight)) edge
-lower_case_of_less net name second edge weight falls gives =
+lower_case_of_less net name second edge weight descends gives =
     gives_less _ _ edge (gives.link.low +ℤ weight) gives.is
-    (lower_case_applies net name gives.link (at_weight second weight) gives.declared gives.second_ordinary gives.begins (le_then_lt weight second.weight (pos 0) falls gives.negative))
-    (moved_falls gives.link.low second.weight weight falls)
+    (lower_case_applies net name gives.link (at_weight second weight) gives.declared gives.second_ordinary gives.begins (le_then_lt weight second.weight (pos 0) descends gives.negative))
+    (moved_decreases gives.link.low second.weight weight descends)
 
 pub cross_case_of_less : (net : Plan) (name : LinkId) (second edge : Edge) (weight : ℤ) → weight ≤ℤ second.weight → CrossCaseGives net name second edge → GivesLess (cross_case net name (at_weight second weight)) edge
-cross_case_of_less net name second edge weight falls gives =
+cross_case_of_less net name second edge weight descends gives =
     gives_less _ _ edge (gives.link.low +ℤ weight) gives.is
-    (cross_case_applies net name gives.link (at_weight second weight) gives.label gives.declared gives.second_labelled gives.another gives.begins (le_then_lt weight second.weight (pos 0) falls gives.negative))
-    (moved_falls gives.link.low second.weight weight falls)
+    (cross_case_applies net name gives.link (at_weight second weight) gives.label gives.declared gives.second_labelled gives.another gives.begins (le_then_lt weight second.weight (pos 0) descends gives.negative))
+    (moved_decreases gives.link.low second.weight weight descends)
 
 pub removal_of_less : (net : Plan) (premise edge : Edge) (weight : ℤ) → weight ≤ℤ premise.weight → RemovalGives net premise edge → GivesLess (removal net (at_weight premise weight)) edge
-removal_of_less net premise edge weight falls gives =
+removal_of_less net premise edge weight descends gives =
     gives_less _ _ edge (int_max weight (pos 0 -ℤ gives.link.low)) gives.is
     (removal_applies net (at_weight premise weight) gives.name gives.link gives.declared gives.labelled)
-    (max_falls premise.weight weight (pos 0 -ℤ gives.link.low) falls)
+    (max_decreases premise.weight weight (pos 0 -ℤ gives.link.low) descends)

@@ -1,4 +1,4 @@
--- What an offer does to the slots of a row: a slot takes it or stays, and whatever the row met it meets afterwards.
+-- What relaxing an edge does to the slots of a row: a slot takes it or stays, and whatever was saturated in the row stays so.
 use Rattle.std.proofs.Common.{◌≡◌, ◌≢◌, ℕ, zero, suc, ℤ, ◌≤ℤ◌, ◌<ℤ◌, ◌==◌, ◌&&◌, Bool, true, false, cond, List, [], ◌∷◌, map, fold, Option, Some, None, refl, ap, sym, subst, ◌∙◌, arith}
 use Rattle.std.specs.Prelude.{slice_get, slice_set, int_lt}
 use Rattle.std.specs.Option.{option_map, option_map_or}
@@ -10,7 +10,7 @@ use Rattle.net_model.specs.declared.ids.LinkId.{LinkId}
 use Rattle.net_model.specs.declared.ids.PointId.{PointId}
 use Rattle.net_model.specs.declared.part.Edge.{Edge}
 use Rattle.closure_model.specs.Keys.{Key, key_of, row_keys, Shape, IsKey}
-use Rattle.closure_model.specs.ReferenceRow.{same_label, is_slot_of, has_above, taken, offered}
+use Rattle.closure_model.specs.ReferenceRow.{same_label, is_slot_of, has_above, taken, relaxed}
 use Rattle.closure_model.specs.declared.rows.Made.{Made}
 use Rattle.closure_model.specs.declared.rows.Slot.{Slot}
 use Rattle.closure_model.proofs.KeyLists.{row_keys_whole}
@@ -76,17 +76,17 @@ key_of_slot to edge slot same =
     let labels : same_label edge.label slot.label ≡ true = rw label (same_label_itself edge.label) in
     rw froms labels
 
--- ---- one offer
--- what an offer makes of a slot
+-- ---- one relaxation
+-- what a relaxation makes of a slot
 pub data Change (made : Made) (slot after : Slot) : Type 0 where
   stays : slot ≡ after → (is_slot_of made.edge slot ≡ true → has_above slot made.edge.weight ≡ false) → Change made slot after
   takes : is_slot_of made.edge slot ≡ true → has_above slot made.edge.weight ≡ true → record slot { weight = Some made.edge.weight; why = Some made.why } ≡ after → Change made slot after
 
-abbrev pub offered_one : Made → Slot → Slot
-offered_one made slot = cond (is_slot_of made.edge slot) (taken made slot) slot
+abbrev pub relaxed_one : Made → Slot → Slot
+relaxed_one made slot = cond (is_slot_of made.edge slot) (taken made slot) slot
 
-pub offered_change : (made : Made) (slot : Slot) → Change made slot (offered_one made slot)
-offered_change made slot = by (is_slot_of made.edge slot) refl (has_above slot made.edge.weight) refl
+pub relaxed_change : (made : Made) (slot : Slot) → Change made slot (relaxed_one made slot)
+relaxed_change made slot = by (is_slot_of made.edge slot) refl (has_above slot made.edge.weight) refl
   where
     by : (b : Bool) → is_slot_of made.edge slot ≡ b → (c : Bool) → has_above slot made.edge.weight ≡ c → Change made slot (cond b (cond c (record slot { weight = Some made.edge.weight; why = Some made.why }) slot) slot)
     by true is true above = takes is above refl
@@ -94,28 +94,28 @@ offered_change made slot = by (is_slot_of made.edge slot) refl (has_above slot m
     by false is true above = stays refl (λ here. absurd cc)
     by false is false above = stays refl (λ here. above)
 
-pub offered_at : (slots : List Slot) (made : Made) (place : ℕ) (slot : Slot) → slice_get slots place ≡ Some slot → slice_get (offered slots made) place ≡ Some (offered_one made slot)
-offered_at slots made place slot here = slice_get-map (offered_one made) slots place ∙ ap (option_map (offered_one made)) here
+pub relaxed_at : (slots : List Slot) (made : Made) (place : ℕ) (slot : Slot) → slice_get slots place ≡ Some slot → slice_get (relaxed slots made) place ≡ Some (relaxed_one made slot)
+relaxed_at slots made place slot here = slice_get-map (relaxed_one made) slots place ∙ ap (option_map (relaxed_one made)) here
 
--- a slot after an offer, and the slot that it was
+-- a slot after a relaxation, and the slot that it was
 pub record WasSlot (slots : List Slot) (made : Made) (place : ℕ) (after : Slot) : Type 0 where
   pub slot : Slot
   pub here : slice_get slots place ≡ Some slot
   pub change : Change made slot after
 
-pub was_slot : (slots : List Slot) (made : Made) (place : ℕ) (after : Slot) → slice_get (offered slots made) place ≡ Some after → WasSlot slots made place after
+pub was_slot : (slots : List Slot) (made : Made) (place : ℕ) (after : Slot) → slice_get (relaxed slots made) place ≡ Some after → WasSlot slots made place after
 was_slot slots made place after there =
-    let (slot, here, is) = some_of_map (offered_one made) (slice_get slots place) after (sym (slice_get-map (offered_one made) slots place) ∙ there) in
-    record { slot = slot; here = here; change = subst (Change made slot) is (offered_change made slot) }
+    let (slot, here, is) = some_of_map (relaxed_one made) (slice_get slots place) after (sym (slice_get-map (relaxed_one made) slots place) ∙ there) in
+    record { slot = slot; here = here; change = subst (Change made slot) is (relaxed_change made slot) }
 
--- the slot at a place after an offer
+-- the slot at a place after a relaxation
 pub record IsSlotAfter (slots : List Slot) (made : Made) (place : ℕ) (slot : Slot) : Type 0 where
   pub after : Slot
-  pub there : slice_get (offered slots made) place ≡ Some after
+  pub there : slice_get (relaxed slots made) place ≡ Some after
   pub change : Change made slot after
 
 pub slot_after : (slots : List Slot) (made : Made) (place : ℕ) (slot : Slot) → slice_get slots place ≡ Some slot → IsSlotAfter slots made place slot
-slot_after slots made place slot here = record { after = offered_one made slot; there = offered_at slots made place slot here; change = offered_change made slot }
+slot_after slots made place slot here = record { after = relaxed_one made slot; there = relaxed_at slots made place slot here; change = relaxed_change made slot }
 
 -- a slot keeps its key, and whether it is settled
 pub change_from : (made : Made) (slot after : Slot) → Change made slot after → after.from ≡ slot.from
@@ -146,7 +146,7 @@ not_above slot weight not = by slot.weight refl not
 pub above : (slot : Slot) (weight old : ℤ) → has_above slot weight ≡ true → slot.weight ≡ Some old → weight <ℤ old
 above slot weight old is has = let test : int_lt weight old ≡ true = rw has at is in lt_is weight old test
 
--- ---- edges that a row meets
+-- ---- edges that are saturated in a row
 -- the slot of the key of an edge has a weight that is no greater
 pub record IsMet (to : PointId) (slots : List Slot) (edge : Edge) : Type 0 where
   pub place : ℕ
@@ -157,10 +157,10 @@ pub record IsMet (to : PointId) (slots : List Slot) (edge : Edge) : Type 0 where
   pub has : slot.weight ≡ Some weight
   pub less : weight ≤ℤ edge.weight
 
-pub met_after : (to : PointId) (slots : List Slot) (made : Made) (edge : Edge) → IsMet to slots edge → IsMet to (offered slots made) edge
+pub met_after : (to : PointId) (slots : List Slot) (made : Made) (edge : Edge) → IsMet to slots edge → IsMet to (relaxed slots made) edge
 met_after to slots made edge met = let next = slot_after slots made met.place met.slot met.here in by next.after next.there next.change
   where
-    by : (after : Slot) → slice_get (offered slots made) met.place ≡ Some after → Change made met.slot after → IsMet to (offered slots made) edge
+    by : (after : Slot) → slice_get (relaxed slots made) met.place ≡ Some after → Change made met.slot after → IsMet to (relaxed slots made) edge
     by after there (stays is not) = record {
       place = met.place;
       slot = after;
@@ -180,20 +180,20 @@ met_after to slots made edge met = let next = slot_after slots made met.place me
       less = le_then made.edge.weight met.weight edge.weight (lt_is_le made.edge.weight met.weight (above met.slot made.edge.weight met.weight is_above met.has)) met.less;
     }
 
-pub met_after_all : (to : PointId) (slots : List Slot) (list : List Made) (edge : Edge) → IsMet to slots edge → IsMet to (fold offered slots list) edge
+pub met_after_all : (to : PointId) (slots : List Slot) (list : List Made) (edge : Edge) → IsMet to slots edge → IsMet to (fold relaxed slots list) edge
 met_after_all to slots [] edge met = met
-met_after_all to slots (made ∷ list) edge met = met_after_all to (offered slots made) list edge (met_after to slots made edge met)
+met_after_all to slots (made ∷ list) edge met = met_after_all to (relaxed slots made) list edge (met_after to slots made edge met)
 
--- what has a key is met at once
-pub offer_met : (to : PointId) (shape : Shape) (slots : List Slot) (made : Made) → map (key_in to) slots ≡ row_keys shape to → IsKey shape (key_of made.edge) → made.edge.to ≡ to → IsMet to (offered slots made) made.edge
-offer_met to shape slots made keys known ends =
+-- what has a key is saturated at once
+pub relax_saturates : (to : PointId) (shape : Shape) (slots : List Slot) (made : Made) → map (key_in to) slots ≡ row_keys shape to → IsKey shape (key_of made.edge) → made.edge.to ≡ to → IsMet to (relaxed slots made) made.edge
+relax_saturates to shape slots made keys known ends =
     let inside : Contains (row_keys shape to) (key_of made.edge) = subst (λ (p : PointId). Contains (row_keys shape p) (key_of made.edge)) ends (row_keys_whole shape (key_of made.edge) known) in
     let (place, at) = slice_get-contained (row_keys shape to) (key_of made.edge) inside in
     let (slot, here, of_key) = some_of_map (key_in to) (slice_get slots place) (key_of made.edge) (sym (slice_get-map (key_in to) slots place) ∙ ap (λ (ks : List Key). slice_get ks place) keys ∙ at) in
     let next = slot_after slots made place slot here in
     by place slot of_key next.after next.there next.change
   where
-    by : (place : ℕ) (slot : Slot) → key_in to slot ≡ key_of made.edge → (after : Slot) → slice_get (offered slots made) place ≡ Some after → Change made slot after → IsMet to (offered slots made) made.edge
+    by : (place : ℕ) (slot : Slot) → key_in to slot ≡ key_of made.edge → (after : Slot) → slice_get (relaxed slots made) place ≡ Some after → Change made slot after → IsMet to (relaxed slots made) made.edge
     by place slot of_key after there (stays is not) =
         let (old, has, less) = not_above slot made.edge.weight (not (key_of_slot to made.edge slot of_key)) in
         record {
@@ -215,5 +215,5 @@ offer_met to shape slots made keys known ends =
       less = le_refl made.edge.weight;
     }
 
-pub offered_keys : (to : PointId) (slots : List Slot) (made : Made) → map (key_in to) (offered slots made) ≡ map (key_in to) slots
-offered_keys to slots made = map_map_kept (key_in to) (offered_one made) (λ slot. change_key to made slot (offered_one made slot) (offered_change made slot)) slots
+pub relaxed_keys : (to : PointId) (slots : List Slot) (made : Made) → map (key_in to) (relaxed slots made) ≡ map (key_in to) slots
+relaxed_keys to slots made = map_map_kept (key_in to) (relaxed_one made) (λ slot. change_key to made slot (relaxed_one made slot) (relaxed_change made slot)) slots

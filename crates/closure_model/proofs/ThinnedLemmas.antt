@@ -1,4 +1,4 @@
--- Lists of what follows, without what the table meets.
+-- Lists of what follows, without what is saturated.
 use Rattle.std.proofs.Common.{◌≡◌, zero, suc, ℤ, pos, ◌≤ℤ◌, ◌<ℤ◌, Bool, true, false, cond, List, [], ◌∷◌, ◌++◌, Option, Some, None, refl, ap, arith}
 use Rattle.std.specs.Prelude.{filter}
 use Rattle.std.specs.List.{Contains, flat_map}
@@ -6,7 +6,7 @@ use Rattle.std.proofs.lemmas.Int.{ints}
 use Rattle.net_model.specs.Rules.{no_case, upper_case}
 use Rattle.net_model.specs.declared.part.Edge.{Edge}
 use Rattle.net_model.proofs.RuleLemmas.{no_case_gives, upper_case_gives}
-use Rattle.closure_model.specs.LeanRows.{IsThinned, at_end, keeps, leaves}
+use Rattle.closure_model.specs.PrunedRows.{IsThinned, at_end, keeps, leaves}
 use Rattle.closure_model.specs.ReferenceRow.{given, from_first}
 use Rattle.closure_model.specs.Tables.{Graph, HasAtMost}
 use Rattle.closure_model.specs.declared.rows.Made.{Made}
@@ -27,7 +27,8 @@ pub thinned_all : (table : Graph) (all : List Made) → ((made : Made) → Conta
 thinned_all table [] met = at_end
 thinned_all table (made ∷ all) met = leaves made all [] (met made (Contains-head made all)) (thinned_all table all (λ one inside. met one (Contains-tail made all one inside)))
 
-pub thinned_flat : {X : Type 0} (table : Graph) (f : X → List Made) (keep : X → Bool) (xs : List X) → ((x : X) → Contains xs x → keep x ≡ false → (made : Made) → Contains (f x) made → HasAtMost table made.edge) → IsThinned table (flat_map f xs) (flat_map f (filter keep xs))
+pub thinned_flat : {X : Type 0} (table : Graph) (f : X → List Made) (keep : X → Bool) (xs : List X) → ((x : X) → Contains xs x → keep x ≡ false → (made : Made) → Contains (f x) made → HasAtMost table made.edge)
+    → IsThinned table (flat_map f xs) (flat_map f (filter keep xs))
 thinned_flat table f keep [] met = at_end
 thinned_flat table f keep (x ∷ xs) met = by (keep x) refl (thinned_flat table f keep xs (λ y inside. met y (Contains-tail x xs y inside)))
   where

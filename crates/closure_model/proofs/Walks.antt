@@ -1,13 +1,13 @@
--- Walks along negative ordinary edges: where a table has no cycle, each has at most as many points as the table.
+-- Walks along negative ordinary edges: if a table has no cycle, each has at most as many points as the table.
 use Rattle.std.proofs.Common.{◌≡◌, ℕ, zero, suc, ◌+◌, ◌<◌, ◌≤◌, true, List, length, Option, Some, None, refl, sym, subst, arith}
 use Rattle.std.specs.Option.{option_to_list}
 use Rattle.std.specs.List.{find}
 use Rattle.std.proofs.lemmas.List.{length-append}
 use Rattle.net_model.specs.declared.ids.PointId.{PointId}
 use Rattle.closure_model.specs.Keys.{Shape, all_points}
-use Rattle.closure_model.specs.Orders.{goes, is_free, first_left, placed_after, placed_points, IsOrder}
+use Rattle.closure_model.specs.Orders.{goes, is_free, lowest_unplaced, placed_after, placed_points, IsOrder}
 use Rattle.closure_model.specs.Tables.{Graph, IsAtMost}
-use Rattle.closure_model.proofs.OrderLemmas.{among_from, place, place_of, falls_in_order, placed_are_an_order}
+use Rattle.closure_model.proofs.OrderLemmas.{among_from, place, place_of, descends_in_order, placed_are_an_order}
 use Rattle.closure_model.proofs.TableLemmas.{at_most_gives}
 use Rattle.closure_model.proofs.Weights.{le_then_lt}
 use Rattle.closure_model.proofs.RowsNeedRows.{gone_edge, goes_from}
@@ -21,7 +21,7 @@ pub walk_ends : (table : Graph) (count : ℕ) (point : PointId) → EndsWalk tab
 walk_ends table _ _ (alone point inside) = inside
 walk_ends table _ _ (longer count from to inside went walk) = inside
 
--- where weights fall, a walk stays one
+-- if weights are lowered, a walk stays one
 pub goes_lower : (low high : Graph) (from to : PointId) → IsAtMost low high → goes high from to ≡ true → goes low from to ≡ true
 goes_lower low high from to less went =
     let (weight, is, below) = gone_edge high from to went in
@@ -38,7 +38,7 @@ walk_in_order : (table : Graph) (order : List PointId) (count : ℕ) (point : Po
 walk_in_order table order _ _ is (alone point inside) = let at = place_of order point (among_from order point (is.whole point inside)) in omega (arith, at.inside)
 walk_in_order table order _ _ is (longer count from to inside went walk) =
     let rest = walk_in_order table order count from is walk in
-    let down = falls_in_order table order is from to (walk_ends table count from walk) inside went in
+    let down = descends_in_order table order is from to (walk_ends table count from walk) inside went in
     omega arith
 
 -- no more points are placed than there were steps
@@ -56,7 +56,7 @@ placed_few table (suc steps) =
     few None = omega arith
     few (Some point) = omega arith
 
-pub walks_are_short : (table : Graph) (count : ℕ) (point : PointId) → first_left table ≡ None → EndsWalk table count point → count ≤ table.shape.points
+pub walks_are_short : (table : Graph) (count : ℕ) (point : PointId) → lowest_unplaced table ≡ None → EndsWalk table count point → count ≤ table.shape.points
 walks_are_short table count point none walk =
     let short = walk_in_order table (placed_points table) count point (placed_are_an_order table none) walk in
     let few = placed_few table table.shape.points in

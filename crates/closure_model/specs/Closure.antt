@@ -7,7 +7,7 @@ use Rattle.closure_model.specs.Keys.{Key}
 use Rattle.closure_model.specs.Tables.{Graph, weight_of, HasEdge, edges_of, lowered, base_table, IsFor}
 use Rattle.closure_model.specs.Derivable.{IsDerivable, IsDerivableFor, IsLeastDerivable}
 
--- the closure: a key has its least derivable weight, and is absent where it has no derivable weight
+-- the closure: a key has its least derivable weight, and is absent if it has no derivable weight
 pub record IsClosure (net : Plan) (table : Graph) : Type 0 where
   pub for_network : IsFor net table
   pub weights : (key : Key) → MatchOption (weight_of table key) ((weight : ℤ) → ¬ IsDerivableFor net key weight) (IsLeastDerivable net key)

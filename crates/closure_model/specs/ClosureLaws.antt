@@ -27,7 +27,7 @@ DerivableAreBounded = (net : Plan) (edge : Edge) → IsPlan net → IsDerivable 
 abbrev pub ReachedAreDerivable : Type 0
 ReachedAreDerivable = (net : Plan) (table : Graph) → IsReached net table → HoldsDerivable net table
 
--- where a network has a closure, it is closed and has the base edges
+-- if a network has a closure, it is closed and has the base edges
 abbrev pub ClosureIsClosed : Type 0
 ClosureIsClosed = (net : Plan) (table : Graph) → IsClosure net table → IsClosed net table × HasBase net table
 
@@ -45,4 +45,5 @@ ClosedAndDerivableIsClosure = (net : Plan) (table : Graph) → IsFor net table �
 
 -- a cycle of derivable edges is a cycle of the closure
 abbrev pub CyclesAreInClosures : Type 0
-CyclesAreInClosures = (net : Plan) (table closure : Graph) (cycle : List PointId) → IsFor net table → HoldsDerivable net table → IsClosure net closure → IsCycle table cycle → IsCycle closure cycle
+CyclesAreInClosures = (net : Plan) (table closure : Graph) (cycle : List PointId) → IsFor net table → HoldsDerivable net table → IsClosure net closure
+    → IsCycle table cycle → IsCycle closure cycle

@@ -74,7 +74,8 @@ item_of (by_rule.Drop premise) = None
 -- a node is another one or stands under it: it is one of its premises, or stands under one of them
 pub data IsUnder (nodes : List Node) (below : NodeId) : NodeId → Type 0 where
   itself : (id : NodeId) → id ≡ below → IsUnder nodes below id
-  under : (id premise : NodeId) (node : Node) → node_at nodes id ≡ Some node → Contains (premises_of node.rule) premise → IsUnder nodes below premise → IsUnder nodes below id
+  under : (id premise : NodeId) (node : Node) → node_at nodes id ≡ Some node → Contains (premises_of node.rule) premise → IsUnder nodes below premise
+      → IsUnder nodes below id
 
 -- a node rests on a bound or a link: it or a node under it uses it
 pub record RestsOn (nodes : List Node) (id : NodeId) (what : Item) : Type 0 where

@@ -60,7 +60,8 @@ abbrev pub IsLabelAt : Shape → PointId → Option LinkId → Type 0
 IsLabelAt shape to None = Unit {0}
 IsLabelAt shape to (Some label) = slice_get shape.activations label.0 ≡ Some to
 
--- a key that there is: it goes from a point to a point and is well labelled
+-- a key that there is: it goes from a point to a point and is well labelled, which means that its label, if it has one, begins where it
+-- ends
 pub record IsKey (shape : Shape) (key : Key) : Type 0 where
   pub to_point : key.to.0 < shape.points
   pub from_point : key.from.0 < shape.points

@@ -1,8 +1,8 @@
--- The first of the least: which item of a list has the least weight, where some items have one; of equal ones the first.
+-- The first of the least: of the items of a list that have a weight, the one of least weight, and of equal ones the first.
 use Rattle.std.specs.Prelude.{◌≡◌, ℕ, suc, ℤ, ◌≤ℤ◌, ◌<ℤ◌, ◌<◌, int_le, List, [], ◌∷◌, slice_get, Option, Some, None, if◌then◌else◌}
 use Rattle.std.specs.Option.{option_map, option_and_then}
 
--- the lesser of two weights with their places, the first where they are equal
+-- the lesser of two weights with their places, the first if they are equal
 abbrev pub lesser : Option (ℕ × ℤ) → Option (ℕ × ℤ) → Option (ℕ × ℤ)
 lesser None second = second
 lesser (Some first) None = Some first

@@ -6,8 +6,8 @@ pub mod Least
 pub mod ReferenceRow
 pub mod ReferenceRound
 pub mod ReferenceRounds
-pub mod LeanRows
-pub mod FreshEdges
+pub mod PrunedRows
+pub mod DeltaEdges
 pub mod RoundLaws
 pub mod Orders
 pub mod OrderLaws

@@ -1,7 +1,8 @@
--- The order of the points of a table, or a cycle: of the points not yet placed, the lowest is placed next that has no negative
--- ordinary edge to a point not placed; where no more can be placed and points are left, a cycle is followed. A negative cycle
--- of ordinary edges shows that a network is not controllable (Morris and Muscettola 2005).
-use Rattle.std.specs.Prelude.{◌≡◌, ◌≢◌, ◌==◌, ◌&&◌, ◌+◌, ◌-◌, ◌<◌, ◌≤◌, not, ℕ, zero, suc, pos, int_lt, Bool, true, false, List, [], ◌∷◌, ◌++◌, length, drop, Option, is_none, if◌then◌else◌}
+-- The order of the points of a table, or a cycle: of the points not yet placed, the lowest is placed next that has no negative ordinary
+-- edge to a point not placed; if no more can be placed and points are left, a cycle is followed. A negative cycle of ordinary edges shows
+-- that a network is not controllable (Morris and Muscettola 2005).
+use Rattle.std.specs.Prelude.{◌≡◌, ◌≢◌, ◌==◌, ◌&&◌, ◌+◌, ◌-◌, ◌<◌, ◌≤◌, not, ℕ, zero, suc, pos, int_lt, Bool, true, false, List, [], ◌∷◌, ◌++◌, length, drop}
+use Rattle.std.specs.Prelude.{Option, is_none, if◌then◌else◌}
 use Rattle.std.specs.List.{All, AllPairs, Contains, find, list_any, position_or_len, slice_index_or}
 use Rattle.std.specs.Option.{option_map_or, option_to_list}
 use Rattle.net_model.specs.declared.ids.PointId.{PointId}
@@ -13,12 +14,12 @@ abbrev pub goes : Graph → (from to : PointId) → Bool
 goes graph from to = option_map_or (λ weight. int_lt weight (pos 0)) (weight_of graph (ordinary_key from to)) false
 
 -- a point stands in a list
-abbrev pub is_among : List PointId → PointId → Bool
-is_among points point = list_any (λ other. other.0 == point.0) points
+abbrev pub contains_point : List PointId → PointId → Bool
+contains_point points point = list_any (λ other. other.0 == point.0) points
 
 -- a negative ordinary edge goes to a point that is not placed
 abbrev pub goes_on : Graph → List PointId → (from to : PointId) → Bool
-goes_on graph placed from to = goes graph from to && not (is_among placed to)
+goes_on graph placed from to = goes graph from to && not (contains_point placed to)
 
 -- the lowest point not placed to which a negative ordinary edge goes
 abbrev pub next_on : Graph → List PointId → PointId → Option PointId
@@ -26,7 +27,7 @@ next_on graph placed from = find (goes_on graph placed from) (all_points graph.s
 
 -- a point is free: it is not placed, and its negative ordinary edges all go to placed points
 abbrev pub is_free : Graph → List PointId → PointId → Bool
-is_free graph placed point = not (is_among placed point) && is_none (next_on graph placed point)
+is_free graph placed point = not (contains_point placed point) && is_none (next_on graph placed point)
 
 -- the points that are placed after one step more: the lowest free point comes next
 abbrev pub place_next : Graph → List PointId → List PointId
@@ -42,17 +43,18 @@ abbrev pub placed_points : Graph → List PointId
 placed_points graph = placed_after graph graph.shape.points
 
 -- the lowest point that is not placed
-abbrev pub first_left : Graph → Option PointId
-first_left graph = find (λ point. not (is_among (placed_points graph) point)) (all_points graph.shape)
+abbrev pub lowest_unplaced : Graph → Option PointId
+lowest_unplaced graph = find (λ point. not (contains_point (placed_points graph) point)) (all_points graph.shape)
 
 -- the walk that goes on from a point, after the points before it, until a point comes twice: from that point on
 abbrev pub cycle_after : Graph → List PointId → (steps : ℕ) → (before : List PointId) → PointId → List PointId
 cycle_after graph placed zero before point = []
 cycle_after graph placed (suc steps) before point =
-    if is_among before point then drop (position_or_len (λ other. other.0 == point.0) before) before
+    if contains_point before point then drop (position_or_len (λ other. other.0 == point.0) before) before
     else option_map_or (cycle_after graph placed steps (before ++ point ∷ [])) (next_on graph placed point) []
 
--- the cycle that is met first from a point
+-- the cycle that is reached first from a point, if the walk goes on always to the lowest point not placed to which a negative ordinary edge
+-- goes
 abbrev pub cycle_from : Graph → PointId → List PointId
 cycle_from graph first = cycle_after graph (placed_points graph) (graph.shape.points + 1) [] first
 
@@ -61,7 +63,7 @@ pub record IsOrder (graph : Graph) (order : List PointId) : Type 0 where
   pub whole : (point : PointId) → point.0 < graph.shape.points → Contains order point
   pub once : AllPairs (λ p q. p.0 ≢ q.0) order
   pub points : All (λ point. point.0 < graph.shape.points) order
-  pub falls : (i j : ℕ) (d : PointId) → i ≤ j → j < length order → goes graph (slice_index_or order i d) (slice_index_or order j d) ≡ false
+  pub descends : (i j : ℕ) (d : PointId) → i ≤ j → j < length order → goes graph (slice_index_or order i d) (slice_index_or order j d) ≡ false
 
 -- a cycle: a negative ordinary edge goes from each point to the next, and from the last to the first
 pub record IsCycle (graph : Graph) (cycle : List PointId) : Type 0 where

@@ -39,16 +39,17 @@ rule_for before now (Low link second) = option_map (by_rule.Low link) (node_for 
 rule_for before now (Cross link second) = option_map (by_rule.Cross link) (node_for now second)
 rule_for before now (Drop premise) = option_map by_rule.Drop (node_for now premise)
 
--- what supports the table when one more edge that fell has its node and has come into the table; the nodes before the round are
--- those of a list
+-- what supports the table when one more edge that improved has its node and has come into the table; the nodes before the round are those
+-- of a list
 abbrev pub with_one : (before : List Node) → Support → Made → Support
-with_one before support made = option_map_or (λ rule. with_node support (record { rule = rule; edge = made.edge })) (rule_for before support.nodes made.why) support
+with_one before support made = option_map_or (λ rule. with_node support (record { rule = rule; edge = made.edge }))
+    (rule_for before support.nodes made.why) support
 
--- the edges that fall in a round: all rows are against the same table; target by target in order, and in each row in the order of
+-- the edges that improve in a round: all rows are against the same table; target by target in order, and in each row in the order of
 -- settling
 abbrev pub round_made : Plan → Graph → List Made
 round_made net table = flat_map (reference_row net table) (all_points table.shape)
 
--- the list and the table after a round: each key whose weight fell has a new node, and the table its new weight
+-- the list and the table after a round: each key that improved has a new node, and the table its new weight
 abbrev pub after_round : Plan → Support → Support
 after_round net support = fold (with_one support.nodes) support (round_made net support.table)

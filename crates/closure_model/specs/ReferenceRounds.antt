@@ -1,6 +1,6 @@
--- The reference rounds (Morris and Muscettola 2005, in this project's form): before each the order of the table is sought; where it
--- is a cycle they end with it, and where nothing falls in a round the table is closed. They may start from whatever stands on the
--- network. No worker, store or edit occurs here.
+-- The reference rounds (Morris and Muscettola 2005, in this project's form): before each the order of the table is sought; if it is a cycle
+-- they end with it, and if nothing improves in a round the table is closed. They may start from whatever stands on the network. No worker,
+-- store or edit occurs here.
 use Rattle.std.specs.Prelude.{◌≡◌, ◌≢◌, ◌==◌, ◌+◌, ℕ, suc, List, [], ◌∷◌, map, Some, None}
 use Rattle.std.specs.List.{AllZip, position_or_len}
 use Rattle.net_model.specs.Network.{Plan, IsPlan}
@@ -8,7 +8,7 @@ use Rattle.net_model.specs.declared.ids.PointId.{PointId}
 use Rattle.closure_model.specs.Closure.{IsClosure}
 use Rattle.closure_model.specs.Derivations.{Support, StandsOn, base_support, IsNodeOf, AreAncestors}
 use Rattle.closure_model.specs.Keys.{Key, ordinary_key}
-use Rattle.closure_model.specs.Orders.{first_left, placed_points, cycle_from}
+use Rattle.closure_model.specs.Orders.{lowest_unplaced, placed_points, cycle_from}
 use Rattle.closure_model.specs.ReferenceRound.{round_made, after_round}
 use Rattle.closure_model.specs.Tables.{IsAtMost}
 use Rattle.closure_model.specs.declared.derivation.Node.{Node}
@@ -22,15 +22,19 @@ pub data Ending : Type 0 where
 -- the rounds from what supports a table: how many are made, the last one without a change included, what supports the table then,
 -- and how they end
 pub data RoundsEnd (net : Plan) : Support → ℕ → Support → Ending → Type 0 where
-  in_cycle : (support : Support) (first : PointId) → first_left support.table ≡ Some first → RoundsEnd net support 0 support (looped (cycle_from support.table first))
-  in_order : (support : Support) → first_left support.table ≡ None → round_made net support.table ≡ [] → RoundsEnd net support 1 support (closed (placed_points support.table))
-  after_one : (support after : Support) (rounds : ℕ) (ending : Ending) → first_left support.table ≡ None → round_made net support.table ≢ [] → RoundsEnd net (after_round net support) rounds after ending → RoundsEnd net support (suc rounds) after ending
+  in_cycle : (support : Support) (first : PointId) → lowest_unplaced support.table ≡ Some first
+      → RoundsEnd net support 0 support (looped (cycle_from support.table first))
+  in_order : (support : Support) → lowest_unplaced support.table ≡ None → round_made net support.table ≡ []
+      → RoundsEnd net support 1 support (closed (placed_points support.table))
+  after_one : (support after : Support) (rounds : ℕ) (ending : Ending) → lowest_unplaced support.table ≡ None → round_made net support.table ≢ []
+      → RoundsEnd net (after_round net support) rounds after ending → RoundsEnd net support (suc rounds) after ending
 
 -- the keys of the edges of a cycle: from each point to the next, and from the last to the first
 abbrev pub keys_from : PointId → PointId → List PointId → List Key
 keys_from first last [] = ordinary_key last first ∷ []
 keys_from first last (next ∷ points) = ordinary_key last next ∷ keys_from first next points
 
+-- the keys of the edges of a cycle of points
 abbrev pub cycle_keys : List PointId → List Key
 cycle_keys [] = []
 cycle_keys (first ∷ points) = keys_from first first points
@@ -59,17 +63,21 @@ pub record IsRefutationOf (net : Plan) (nodes : List Node) (lines : List NodeId)
 -- Rounds end in one way.
 abbrev pub RoundsEndInOneWay : Type 0
 RoundsEndInOneWay =
-    (net : Plan) (start one two : Support) (n m : ℕ) (ending other : Ending) → RoundsEnd net start n one ending → RoundsEnd net start m two other → (n ≡ m) × (one ≡ two) × (ending ≡ other)
+    (net : Plan) (start one two : Support) (n m : ℕ) (ending other : Ending) → RoundsEnd net start n one ending → RoundsEnd net start m two other
+    → (n ≡ m) × (one ≡ two) × (ending ≡ other)
 
 -- A round keeps what stands on a network standing on it, and no weight of its table rises.
 abbrev pub RoundsKeepStanding : Type 0
-RoundsKeepStanding = (net : Plan) (support : Support) → IsPlan net → StandsOn net support → StandsOn net (after_round net support) × IsAtMost (after_round net support).table support.table
+RoundsKeepStanding = (net : Plan) (support : Support) → IsPlan net → StandsOn net support
+    → StandsOn net (after_round net support) × IsAtMost (after_round net support).table support.table
 
 -- Rounds that close give the closure.
 abbrev pub RoundsThatCloseGiveTheClosure : Type 0
 RoundsThatCloseGiveTheClosure =
-    (net : Plan) (start after : Support) (rounds : ℕ) (order : List PointId) → IsPlan net → StandsOn net start → RoundsEnd net start rounds after (closed order) → IsClosure net after.table
+    (net : Plan) (start after : Support) (rounds : ℕ) (order : List PointId) → IsPlan net → StandsOn net start
+    → RoundsEnd net start rounds after (closed order) → IsClosure net after.table
 
 -- Whatever rounds make stands on the network, and no weight rises.
 abbrev pub RoundsStand : Type 0
-RoundsStand = (net : Plan) (start after : Support) (rounds : ℕ) (ending : Ending) → IsPlan net → StandsOn net start → RoundsEnd net start rounds after ending → StandsOn net after × IsAtMost after.table start.table
+RoundsStand = (net : Plan) (start after : Support) (rounds : ℕ) (ending : Ending) → IsPlan net → StandsOn net start → RoundsEnd net start rounds after ending
+    → StandsOn net after × IsAtMost after.table start.table

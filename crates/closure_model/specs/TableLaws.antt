@@ -18,7 +18,8 @@ EdgesAreListed = (graph : Graph) (edge : Edge) → Contains (edges_of graph) edg
 
 -- the edges of a sound table, and those of each row, are what it has at the keys in their order
 abbrev pub RowsAreListed : Type 0
-RowsAreListed = (graph : Graph) → IsGraph graph → (edges_of graph ≡ edges_at graph (all_keys graph.shape)) × ((to : PointId) → to.0 < graph.shape.points → row_of graph to ≡ edges_at graph (row_keys graph.shape to))
+RowsAreListed = (graph : Graph) → IsGraph graph → (edges_of graph ≡ edges_at graph (all_keys graph.shape))
+    × ((to : PointId) → to.0 < graph.shape.points → row_of graph to ≡ edges_at graph (row_keys graph.shape to))
 
 -- the table of a list of edges has exactly the least of each key
 abbrev pub TablesHoldTheLeast : Type 0
@@ -26,7 +27,8 @@ TablesHoldTheLeast = (shape : Shape) (given : List Edge) (edge : Edge) → HasEd
 
 -- the base table of a network is a sound table, has the base edges, and every table that has them is at most it
 abbrev pub BaseTableIsWeakest : Type 0
-BaseTableIsWeakest = (net : Plan) → IsPlan net → IsGraph (base_table net) × HasBase net (base_table net) × ((graph : Graph) → HasBase net graph → IsAtMost graph (base_table net))
+BaseTableIsWeakest = (net : Plan) → IsPlan net → IsGraph (base_table net) × HasBase net (base_table net)
+    × ((graph : Graph) → HasBase net graph → IsAtMost graph (base_table net))
 
 -- a closed table has the base edges
 abbrev pub ClosedTablesHaveTheBase : Type 0

@@ -1,6 +1,7 @@
 -- Tables of the labelled distance graph (Morris and Muscettola 2005, in this project's form): at most one edge for each key,
 -- the one of least weight.
-use Rattle.std.specs.Prelude.{◌≡◌, ◌==◌, ℕ, ℤ, ◌≤ℤ◌, ◌≤◌, ◌<◌, int_le, Bool, false, List, ◌++◌, length, map, filter, fold, Option, Some, IsSomeAnd, if◌then◌else◌}
+use Rattle.std.specs.Prelude.{◌≡◌, ◌==◌, ℕ, ℤ, ◌≤ℤ◌, ◌≤◌, ◌<◌, int_le, Bool, false, List, ◌++◌, length, map, filter, fold, Option, Some, IsSomeAnd}
+use Rattle.std.specs.Prelude.{if◌then◌else◌}
 use Rattle.std.specs.FinMap as map_of
 use Rattle.std.specs.List.{All, Contains, enumerate_from, filter_map}
 use Rattle.std.specs.Option.{option_map, option_map_or}
@@ -53,10 +54,11 @@ no_edges shape = record { shape = shape; weights = map_of.empty }
 abbrev pub has_at_most : Graph → Edge → Bool
 has_at_most graph edge = option_map_or (λ weight. int_le weight edge.weight) (weight_of graph (key_of edge)) false
 
+-- the same as something that holds: the table has the key of an edge, at a weight that is no greater
 abbrev pub HasAtMost : Graph → Edge → Type 0
 HasAtMost graph edge = IsSomeAnd (weight_of graph (key_of edge)) (λ weight. weight ≤ℤ edge.weight)
 
--- the table with one more edge, where it had none of this key or a greater one
+-- the table with one more edge, if it had none of this key or a greater one
 abbrev pub lowered : Graph → Edge → Graph
 lowered graph edge = if has_at_most graph edge then graph else with_edge graph edge
 

@@ -2,8 +2,8 @@
 
 use net_model::{Edge, LinkId, PointId, Weight};
 
-/// How a key of a row got a lesser weight: the rule, and its premises in the order of the edges, with the weights that were
-/// used.
+/// How a key of a row got a lesser weight: the rule, and its premises in the order of the edges,
+/// with the weights that were used.
 #[derive(Clone, Copy, Debug, PartialEq, Eq)]
 pub enum Why {
     /// No-case, from an ordinary edge of the table and an ordinary edge of the row.
@@ -25,8 +25,8 @@ pub struct Made {
     pub why: Why,
 }
 
-/// A key of the row of a target as it stands while the row is made: where its edges begin and their label, the weight that
-/// it has, how it got it if not from the table, and whether it is settled.
+/// A key of the row of a target as it stands while the row is made: where its edges begin and their
+/// label, the weight that it has, how it got it if not from the table, and whether it is settled.
 #[derive(Clone, Copy, Debug, PartialEq, Eq)]
 pub struct Slot {
     pub from: PointId,

@@ -2,32 +2,32 @@
 use Rattle.std.proofs.Common.{◌≡◌, ℕ, ◌+◌, List, [], ◌∷◌, refl, sym, ap, ◌∙◌, subst}
 use Rattle.command_engine.specs.Alternatives.{step_within, either_reader}
 use Rattle.command_engine.specs.Grammars.{Grammar, Next, Line, NoLine, Leads, FaultOf, ReadsText, ReadsBy, language, number_after}
-use Rattle.command_engine.specs.Reading.{Reader}
+use Rattle.command_engine.specs.Readers.{Reader}
 use Rattle.command_engine.specs.declared.alternatives.Either.TheVariants.{Left, Right}
 use Rattle.command_engine.specs.declared.machines.Stop.{Stop}
-use Rattle.command_engine.specs.declared.reading.Step.{Step}
-use Rattle.command_engine.specs.declared.reading.Step.TheVariants.{Goes, Gives, Refused}
+use Rattle.command_engine.specs.declared.line_texts.Parse.{Parse}
+use Rattle.command_engine.specs.declared.line_texts.Parse.TheVariants.{Continue, Parsed, Refused}
 
--- where a state of a reader wraps one of another, it does what that does
+-- if a state of a reader wraps one of another, it does what that does
 pub record IsWithin {S T V F : Type 0} (inner : Reader S V F) (outer : Reader T V F) (wrap : S → T) : Type 0 where
   pub longest : (state : S) → outer.longest (wrap state) ≡ inner.longest state
   pub reads : (state : S) (number : ℕ) (line : List ℕ) → outer.reads (wrap state) number line ≡ step_within wrap (inner.reads state number line)
   pub stops : (state : S) (number : ℕ) (stop : Stop) → outer.stops (wrap state) number stop ≡ inner.stops state number stop
 
 module _ {S T V F : Type 0} (wrap : S → T) where
-  goes_within : (step : Step S V F) (to : T) → ◌≡◌ {A = Step T V F} (step_within wrap step) (Goes to) → (next : S) × (step ≡ Goes next) × (to ≡ wrap next)
-  goes_within (Goes next) to is = (next, refl, (let same : to ≡ wrap next = cc in same))
-  goes_within (Gives value) to is = absurd (cc)
+  goes_within : (step : Parse S V F) (to : T) → ◌≡◌ {A = Parse T V F} (step_within wrap step) (Continue to) → (next : S) × (step ≡ Continue next) × (to ≡ wrap next)
+  goes_within (Continue next) to is = (next, refl, (let same : to ≡ wrap next = cc in same))
+  goes_within (Parsed value) to is = absurd (cc)
   goes_within (Refused fault) to is = absurd (cc)
 
-  gives_within : (step : Step S V F) (value : V) → ◌≡◌ {A = Step T V F} (step_within wrap step) (Gives value) → step ≡ Gives value
-  gives_within (Goes next) value is = absurd (cc)
-  gives_within (Gives other) value is = let same : other ≡ value = cc in ap Gives same
+  gives_within : (step : Parse S V F) (value : V) → ◌≡◌ {A = Parse T V F} (step_within wrap step) (Parsed value) → step ≡ Parsed value
+  gives_within (Continue next) value is = absurd (cc)
+  gives_within (Parsed other) value is = let same : other ≡ value = cc in ap Parsed same
   gives_within (Refused fault) value is = absurd (cc)
 
-  refused_within : (step : Step S V F) (fault : F) → ◌≡◌ {A = Step T V F} (step_within wrap step) (Refused fault) → step ≡ Refused fault
-  refused_within (Goes next) fault is = absurd (cc)
-  refused_within (Gives other) fault is = absurd (cc)
+  refused_within : (step : Parse S V F) (fault : F) → ◌≡◌ {A = Parse T V F} (step_within wrap step) (Refused fault) → step ≡ Refused fault
+  refused_within (Continue next) fault is = absurd (cc)
+  refused_within (Parsed other) fault is = absurd (cc)
   refused_within (Refused other) fault is = let same : other ≡ fault = cc in ap Refused same
 
 module _ {S T V F : Type 0} (inner : Reader S V F) (outer : Reader T V F) (wrap : S → T) (within : IsWithin inner outer wrap) where
@@ -46,26 +46,26 @@ module _ {S T V F : Type 0} (inner : Reader S V F) (outer : Reader T V F) (wrap 
   module _ (start : S) (past : ℕ) where
     text_out : (lines : List (List ℕ)) (value : V) (rest : List (List ℕ)) → ReadsText inner start past lines value rest → ReadsText outer (wrap start) past lines value rest
     text_out lines value rest text = record {
-      front = text.front;
+      prefix = text.prefix;
       last = text.last;
       state = wrap text.state;
       whole = text.whole;
-      leads = leads_out start text.state past text.front text.leads;
-      gives = within.reads text.state (number_after past text.front) text.last ∙ ap (step_within wrap) text.gives;
+      leads = leads_out start text.state past text.prefix text.leads;
+      gives = within.reads text.state (number_after past text.prefix) text.last ∙ ap (step_within wrap) text.gives;
     }
 
     text_in : (lines : List (List ℕ)) (value : V) (rest : List (List ℕ)) → ReadsText outer (wrap start) past lines value rest → ReadsText inner start past lines value rest
     text_in lines value rest text =
-        let there = leads_in start past text.front text.state text.leads in
-        let number = number_after past text.front in
-        let gives : outer.reads (wrap there.0) number text.last ≡ Gives value = subst (λ (s : T). outer.reads s (number_after past text.front) text.last ≡ Gives value) there.1 text.gives in
+        let there = leads_in start past text.prefix text.state text.leads in
+        let number = number_after past text.prefix in
+        let gives : outer.reads (wrap there.0) number text.last ≡ Parsed value = subst (λ (s : T). outer.reads s (number_after past text.prefix) text.last ≡ Parsed value) there.1 text.gives in
         record {
-          front = text.front;
+          prefix = text.prefix;
           last = text.last;
           state = there.0;
           whole = text.whole;
           leads = there.2;
-          gives = gives_within wrap (inner.reads there.0 (number_after past text.front) text.last) value (sym (within.reads there.0 (number_after past text.front) text.last) ∙ gives);
+          gives = gives_within wrap (inner.reads there.0 (number_after past text.prefix) text.last) value (sym (within.reads there.0 (number_after past text.prefix) text.last) ∙ gives);
         }
 
     longest_out : (lines : List (List ℕ)) (longest : ℕ) → (language inner start past).longest lines longest → (language outer (wrap start) past).longest lines longest

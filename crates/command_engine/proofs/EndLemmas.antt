@@ -1,25 +1,26 @@
 -- How a run ends: what its last turn did, after all that came before it.
-use Rattle.std.proofs.Common.{◌≡◌, ◌⊎◌, inl, inr, ℕ, ◌+◌, ◌<◌, ◌≤◌, Bool, true, false, List, [], ◌∷◌, ◌++◌, length, take, drop, map, Option, Some, None, refl, sym, ap, subst, ◌∙◌, arith, append_assoc, append-nil, take-append-drop, length-drop}
+use Rattle.std.proofs.Common.{◌≡◌, ◌⊎◌, inl, inr, ℕ, ◌+◌, ◌<◌, ◌≤◌, Bool, true, false, List, [], ◌∷◌, ◌++◌, length, take, drop, map, Option, Some, None, refl, sym, ap, subst, ◌∙◌, arith, append_assoc, append-nil, take-append-drop}
+use Rattle.std.proofs.Common.{length-drop}
 use Rattle.std.specs.Prelude.{if◌then◌else◌}
 use Rattle.std.specs.Option.{is_some}
 use Rattle.std.specs.List.{concat}
 use Rattle.texts.specs.Lines.{InputLine, input_lines, whole_lines, whole_line}
 use Rattle.texts.proofs.InputLemmas.{whole_lines_is, unfinished_is, first_grows}
 use Rattle.plan_port.specs.Lines.{Coming, TooLong as LongLine, TooMuch as MuchInput}
-use Rattle.plan_port.specs.Talk.{Piece, TalkPlace, Talk, Seen, WhereTold, LosesFront, place_in_talk, raised}
-use Rattle.plan_port.specs.Writing.{Writes, after_writing}
-use Rattle.plan_port.specs.Reader.{Reader, IsReader, room, remaining, fresh, is_read_fault, lines_begun, after_takes, counted_takes, ReadsNext, FirstIs, GivesFirst, GivesNext}
+use Rattle.plan_port.specs.Talk.{Piece, TalkPlace, Talk, Seen, WhereShown, LosesPrefix, place_in_talk, raised}
+use Rattle.plan_port.specs.WrittenBytes.{Writes, after_writing}
+use Rattle.plan_port.specs.Reader.{Reader, IsReader, spare_capacity, remaining, initial, is_read_fault, lines_started, after_takes, counted_takes, ReadsNext, FirstIs, GivesFirst, GivesNext}
 use Rattle.plan_port.specs.declared.lines.Line.{Line}
 use Rattle.plan_port.specs.declared.lines.Line.TheVariants.{Text, TooLong, TooMuch, ReadFault, OutOfMemory}
 use Rattle.plan_port.specs.declared.lines.Line.TheVariants.{End as NoLine}
-use Rattle.plan_port.specs.declared.writing.Written.{Written}
-use Rattle.plan_port.specs.declared.writing.Written.TheVariants.{All, Part}
-use Rattle.plan_port.proofs.Talks.{with_put-nil, WhereTold-same, WhereTold-twice, WhereTold-so, LosesFront-nil}
+use Rattle.plan_port.specs.declared.written_bytes.Written.{Written}
+use Rattle.plan_port.specs.declared.written_bytes.Written.TheVariants.{All, Part}
+use Rattle.plan_port.proofs.Talks.{with_put-nil, WhereShown-same, WhereShown-twice, WhereShown-so, LosesPrefix-nil}
 use Rattle.command_engine.specs.Machine.{Machine}
 use Rattle.command_engine.specs.Limits.{most_input}
 use Rattle.command_engine.specs.Runs.{Here, begins, Stops, RepliesTo, Replies, Answers}
 use Rattle.command_engine.specs.Prompt.{bytes_of, IsTakenPromptly, IsPrompt}
-use Rattle.command_engine.specs.Breaks.{read_fault_line, IsPart}
+use Rattle.command_engine.specs.Breaks.{read_fault_line, IsProperPrefix}
 use Rattle.command_engine.specs.Calls.{Calls, NoTakeFailed, NoPutFailed, EndsAfterTake, LastTakeFailed, LastPutFailed}
 use Rattle.command_engine.specs.Serves.{PutsFor, Puts, Serves}
 use Rattle.command_engine.specs.Turns.{turn_of, after_written, StopsTurn, ReplyTo, WantedMemory, Replied, OneTurn}
@@ -28,19 +29,19 @@ use Rattle.command_engine.proofs.TurnLemmas.{Held, here_at, InTime, SoFar, ReadS
 use Rattle.command_engine.specs.declared.endings.End.{End}
 use Rattle.command_engine.specs.declared.endings.Status.{Status}
 use Rattle.command_engine.specs.declared.endings.Status.TheVariants as status
-use Rattle.command_engine.specs.declared.machines.Onward.{Onward}
-use Rattle.command_engine.specs.declared.machines.Onward.TheVariants as onward
+use Rattle.command_engine.specs.declared.machines.Flow.{Flow}
+use Rattle.command_engine.specs.declared.machines.Flow.TheVariants as flow
 use Rattle.command_engine.specs.declared.machines.Stop.{Stop}
 use Rattle.command_engine.specs.declared.machines.Stop.TheVariants.{LineTooLong, InputTooMuch, InputEnded}
-use Rattle.command_engine.specs.declared.serving.Turn.{Turn}
-use Rattle.command_engine.specs.declared.serving.Turn.TheVariants.{Goes, Ends}
+use Rattle.command_engine.specs.declared.run_loop.Turn.{Turn}
+use Rattle.command_engine.specs.declared.run_loop.Turn.TheVariants.{Continue, Finish}
 
 -- the bytes that a writing put
 abbrev pub bytes_put : Written → List ℕ → List ℕ
 bytes_put All bytes = bytes
 bytes_put (Part count) bytes = take count bytes
 
--- where the last put failed, after a writing
+-- if the last put failed, after a writing
 abbrev pub put_place : Written → Talk → Talk → Type 0
 put_place All is fin = fin.failed_put ≡ is.failed_put
 put_place (Part count) is fin = fin.failed_put ≡ Some (place_in_talk fin)
@@ -60,31 +61,31 @@ nothing_wrote : (is : Talk) → Wrote All [] is is
 nothing_wrote is = record { taken = refl; put = sym (append-nil is.put); take_same = refl; put_is = refl }
 
 -- a part of an answer
-part_is : (count : ℕ) (bytes : List ℕ) → count < length bytes → IsPart (take count bytes) bytes
+part_is : (count : ℕ) (bytes : List ℕ) → count < length bytes → IsProperPrefix (take count bytes) bytes
 part_is count bytes within =
     let more : 0 < length (drop count bytes) = omega (arith, within, length-drop count bytes) in
     (drop count bytes, sym (take-append-drop count bytes), more)
 
--- what is left, where it is told
-told_left : (old new : Option (List ℕ)) (bytes : List ℕ) (R : List ℕ → List ℕ → Type 0) → LosesFront old new bytes → WhereTold old new R → WhereTold old new (λ x y. R x y × (x ≡ bytes ++ y))
-told_left old None bytes R loses told = tt
-told_left None (Some y) bytes R loses told = absurd told
-told_left (Some x) (Some y) bytes R loses told = (told, cc loses)
+-- what is left, if it is shown
+shown_left : (old new : Option (List ℕ)) (bytes : List ℕ) (R : List ℕ → List ℕ → Type 0) → LosesPrefix old new bytes → WhereShown old new R → WhereShown old new (λ x y. R x y × (x ≡ bytes ++ y))
+shown_left old None bytes R loses shown = tt
+shown_left None (Some y) bytes R loses shown = absurd shown
+shown_left (Some x) (Some y) bytes R loses shown = (shown, cc loses)
 
-still_told : (old new : Option (List ℕ)) (bytes : List ℕ) → LosesFront old new bytes → is_some new ≡ is_some old
-still_told None None bytes loses = refl
-still_told None (Some y) bytes loses = absurd (cc loses)
-still_told (Some x) None bytes loses = absurd (cc loses)
-still_told (Some x) (Some y) bytes loses = refl
+still_shown : (old new : Option (List ℕ)) (bytes : List ℕ) → LosesPrefix old new bytes → is_some new ≡ is_some old
+still_shown None None bytes loses = refl
+still_shown None (Some y) bytes loses = absurd (cc loses)
+still_shown (Some x) None bytes loses = absurd (cc loses)
+still_shown (Some x) (Some y) bytes loses = refl
 
 -- a turn that ends is that of a command which ends
-turn_ends : {C : Type 0} (how : Onward C) (s : Status) → Ends s ≡ turn_of how → (end : End) × (how ≡ onward.Ends end) × (s ≡ status.Ended end)
-turn_ends (onward.Goes state) s is = absurd (cc is)
-turn_ends (onward.Ends end) s is = (end, refl, cc is)
+turn_ends : {C : Type 0} (how : Flow C) (s : Status) → Finish s ≡ turn_of how → (end : End) × (how ≡ flow.Finish end) × (s ≡ status.Ended end)
+turn_ends (flow.Continue state) s is = absurd (cc is)
+turn_ends (flow.Finish end) s is = (end, refl, cc is)
 
-turn_goes : {C : Type 0} (how : Onward C) (next : C) → Goes next ≡ turn_of how → how ≡ onward.Goes next
-turn_goes (onward.Goes state) next is = cc is
-turn_goes (onward.Ends end) next is = absurd (cc is)
+turn_goes : {C : Type 0} (how : Flow C) (next : C) → Continue next ≡ turn_of how → how ≡ flow.Continue next
+turn_goes (flow.Continue state) next is = cc is
+turn_goes (flow.Finish end) next is = absurd (cc is)
 
 module _ {C : Type 0} (machine : Machine C) (start : C) where
   abbrev here : C → Reader → Here C
@@ -92,21 +93,24 @@ module _ {C : Type 0} (machine : Machine C) (start : C) where
 
   -- the reply to what the reader answered is the reply to what comes first of the lines ahead
   pub record Proper (command : C) (old : Reader) (ahead : List InputLine) (answer : List ℕ) (reply : Turn C) : Type 0 where
-    pub how : Onward C
+    pub how : Flow C
     pub replies : Replies machine (here command old) ahead answer how
     pub is : reply ≡ turn_of how
 
-  stops_at : (command : C) (old : Reader) (stop : Stop) (number : ℕ) (answer : List ℕ) (reply : Turn C) → number ≡ old.number + 1 → StopsTurn machine command number stop answer reply → (how : Onward C) × Stops machine (here command old) stop answer how × (reply ≡ turn_of how)
+  stops_at : (command : C) (old : Reader) (stop : Stop) (number : ℕ) (answer : List ℕ) (reply : Turn C) → number ≡ old.number + 1 → StopsTurn machine command number stop answer reply
+      → (how : Flow C) × Stops machine (here command old) stop answer how × (reply ≡ turn_of how)
   stops_at command old stop number answer reply numbered stops =
-      (onward.Ends stops.0, (stops.0, refl, subst (λ (n : ℕ). machine.stops command n stop answer stops.0) numbered stops.2), stops.1)
+      (flow.Finish stops.0, (stops.0, refl, subst (λ (n : ℕ). machine.stops command n stop answer stops.0) numbered stops.2), stops.1)
 
-  first_stops : (command : C) (old : Reader) (ahead : List InputLine) (how : Coming) (answer : List ℕ) (reply : Turn C) → FirstIs how (machine.longest command) (room old) ahead → ((text : List ℕ) → (it : Onward C) × RepliesTo machine how (here command old) text answer it × (reply ≡ turn_of it)) → Proper command old ahead answer reply
+  first_stops : (command : C) (old : Reader) (ahead : List InputLine) (how : Coming) (answer : List ℕ) (reply : Turn C) → FirstIs how (machine.longest command) (spare_capacity old) ahead
+      → ((text : List ℕ) → (it : Flow C) × RepliesTo machine how (here command old) text answer it × (reply ≡ turn_of it)) → Proper command old ahead answer reply
   first_stops command old [] how answer reply first replies = absurd first
   first_stops command old (line ∷ others) how answer reply first replies =
       let it = replies line.text in
       record { how = it.0; replies = subst (λ (h : Coming). RepliesTo machine h (here command old) line.text answer it.0) (sym first) it.1; is = it.2 }
 
-  proper : (line : Line) (command : C) (old new : Reader) (before rest answer : List ℕ) (reply : Turn C) → is_read_fault line ≡ false → new.number ≡ old.number + lines_begun line → GivesFirst (machine.longest command) old new line before rest → ReplyTo machine command line new answer reply → Proper command old (input_lines (remaining old before)) answer reply
+  proper : (line : Line) (command : C) (old new : Reader) (before rest answer : List ℕ) (reply : Turn C) → is_read_fault line ≡ false → new.number ≡ old.number + lines_started line
+      → GivesFirst (machine.longest command) old new line before rest → ReplyTo machine command line new answer reply → Proper command old (input_lines (remaining old before)) answer reply
   proper Text command old new before rest answer reply fault number gives replies =
       let line = gives.0 in
       let gave = gives.1 in
@@ -114,7 +118,8 @@ module _ {C : Type 0} (machine : Machine C) (start : C) where
       subst (λ (n : ℕ). machine.takes command n line.text answer replies.0) number (subst (λ (t : List ℕ). machine.takes command new.number t answer replies.0) gave.text replies.2) in
       record {
         how = replies.0;
-        replies = subst (λ (ls : List InputLine). Replies machine (here command old) ls answer replies.0) (sym gave.lines) (replies_to_line machine (here command old) line (input_lines (remaining new rest)) answer replies.0 gave.comes takes);
+        replies = subst (λ (ls : List InputLine). Replies machine (here command old) ls answer replies.0) (sym gave.lines)
+            (replies_to_line machine (here command old) line (input_lines (remaining new rest)) answer replies.0 gave.comes takes);
         is = replies.1;
       }
   proper NoLine command old new before rest answer reply fault number gives replies =
@@ -134,8 +139,8 @@ module _ {C : Type 0} (machine : Machine C) (start : C) where
     pub most : reader.most ≡ most_input
     pub read_faults : now.read_faults ≡ first.read_faults
     pub write_faults : now.write_faults ≡ first.write_faults
-    pub told : is_some now.left ≡ is_some first.left
-    pub talk : WhereTold first.talk now.talk (SoFar machine start command reader first.left now.left)
+    pub shown : is_some now.left ≡ is_some first.left
+    pub talk : WhereShown first.talk now.talk (SoFar machine start command reader first.left now.left)
 
   no_piece : (seen later : List Piece) (piece : Piece) (A : Type 0) → [] ≡ seen ++ piece ∷ later → A
   no_piece [] later piece A is = absurd (cc is)
@@ -144,14 +149,14 @@ module _ {C : Type 0} (machine : Machine C) (start : C) where
   begins_held : Held [] [] []
   begins_held = record { given = []; bytes = refl; closed = unfinished_is []; whole = ap (λ (l : List (List ℕ)). map whole_line l) (whole_lines_is []) }
 
-  pub serving_begins : (first : Seen) → IsServing start (fresh most_input) first first
+  pub serving_begins : (first : Seen) → IsServing start (initial most_input) first first
   serving_begins first = record {
     running = refl;
     most = refl;
     read_faults = refl;
     write_faults = refl;
-    told = refl;
-    talk = WhereTold-same first.talk (λ was is. SoFar machine start start (fresh most_input) first.left first.left was is) (λ t. record {
+    shown = refl;
+    talk = WhereShown-same first.talk (λ was is. SoFar machine start start (initial most_input) first.left first.left was is) (λ t. record {
       pieces = [];
       lines = [];
       said = [];
@@ -162,8 +167,8 @@ module _ {C : Type 0} (machine : Machine C) (start : C) where
       answers = (refl, refl);
       in_time = λ seen later piece is. no_piece seen later piece (InTime machine start t.put [] [] seen piece) is;
       held = λ running. begins_held;
-      left = LosesFront-nil first.left;
-      ahead = WhereTold-same first.left (λ input rest. input_lines input ≡ [] ++ input_lines (remaining (fresh most_input) rest)) (λ bytes. refl);
+      left = LosesPrefix-nil first.left;
+      ahead = WhereShown-same first.left (λ input rest. input_lines input ≡ [] ++ input_lines (remaining (initial most_input) rest)) (λ bytes. refl);
     });
   }
 
@@ -171,18 +176,21 @@ module _ {C : Type 0} (machine : Machine C) (start : C) where
   pub record ReadFrom (line : Line) (command : C) (old new : Reader) (first before between : Seen) : Type 0 where
     pub serving : IsServing command old first before
     pub reads : ReadsNext (machine.longest command) old new line before between
-    pub next : WhereTold before.left between.left (GivesNext (machine.longest command) old new line)
+    pub next : WhereShown before.left between.left (GivesNext (machine.longest command) old new line)
 
   -- after the reader has read on
-  read_seen : (command : C) (old new : Reader) (line : Line) (first before between : Seen) → ReadFrom line command old new first before between → WhereTold first.talk between.talk (ReadSoFar machine start command old new line first.left between.left)
+  read_seen : (command : C) (old new : Reader) (line : Line) (first before between : Seen) → ReadFrom line command old new first before between
+      → WhereShown first.talk between.talk (ReadSoFar machine start command old new line first.left between.left)
   read_seen command old new line first before between from =
-      WhereTold-twice first.talk before.talk between.talk (SoFar machine start command old first.left before.left) (λ mid is. is ≡ after_takes from.reads.pieces (is_read_fault line) mid) (ReadSoFar machine start command old new line first.left between.left)
+      WhereShown-twice first.talk before.talk between.talk (SoFar machine start command old first.left before.left) (λ mid is. is ≡ after_takes from.reads.pieces (is_read_fault line) mid)
+      (ReadSoFar machine start command old new line first.left between.left)
       (λ was mid is so_far changed. read_on machine start command old new line before between first.left was mid is so_far from.reads changed from.next) from.serving.talk from.reads.takes.talk
 
   -- a command goes on only after a line
-  text_goes : (line : Line) (command : C) (new : Reader) (answer : List ℕ) (reply : Turn C) (next : C) → ReplyTo machine command line new answer reply → reply ≡ Goes next → (line ≡ Text) × machine.takes command new.number new.text answer (onward.Goes next)
+  text_goes : (line : Line) (command : C) (new : Reader) (answer : List ℕ) (reply : Turn C) (next : C) → ReplyTo machine command line new answer reply → reply ≡ Continue next
+      → (line ≡ Text) × machine.takes command new.number new.text answer (flow.Continue next)
   text_goes Text command new answer reply next replies is =
-      (refl, subst (λ (h : Onward C). machine.takes command new.number new.text answer h) (turn_goes replies.0 next (sym is ∙ replies.1)) replies.2)
+      (refl, subst (λ (h : Flow C). machine.takes command new.number new.text answer h) (turn_goes replies.0 next (sym is ∙ replies.1)) replies.2)
   text_goes NoLine command new answer reply next replies is = absurd (cc (is, replies.1))
   text_goes (TooLong n) command new answer reply next replies is = absurd (cc (is, replies.1))
   text_goes (TooMuch n) command new answer reply next replies is = absurd (cc (is, replies.1))
@@ -190,16 +198,19 @@ module _ {C : Type 0} (machine : Machine C) (start : C) where
   text_goes OutOfMemory command new answer reply next replies is = absurd replies
 
   -- the answer to a line was put, and the command goes on
-  on_by : (line : Line) (command next : C) (old new : Reader) (first before between after : Seen) (answer : List ℕ) → line ≡ Text → ReadFrom line command old new first before between → Writes between after All answer → machine.takes command new.number new.text answer (onward.Goes next) → IsServing next new first after
+  on_by : (line : Line) (command next : C) (old new : Reader) (first before between after : Seen) (answer : List ℕ) → line ≡ Text → ReadFrom line command old new first before between → Writes between after All answer
+      → machine.takes command new.number new.text answer (flow.Continue next) → IsServing next new first after
   on_by Text command next old new first before between after answer is from writes takes = record {
     running = from.reads.stopped;
     most = from.reads.most ∙ from.serving.most;
     read_faults = writes.read_faults ∙ (from.reads.takes.read_faults ∙ from.serving.read_faults);
     write_faults = writes.write_faults ∙ (from.reads.takes.write_faults ∙ from.serving.write_faults);
-    told = ap (λ (l : Option (List ℕ)). is_some l) writes.left ∙ (still_told before.left between.left (concat from.reads.pieces) from.reads.takes.left ∙ from.serving.told);
-    talk = subst (λ (l : Option (List ℕ)). WhereTold first.talk after.talk (SoFar machine start next new first.left l)) (sym writes.left)
-        (WhereTold-twice first.talk between.talk after.talk (ReadSoFar machine start command old new Text first.left between.left) (λ is fin. fin ≡ after_writing All answer is) (λ was fin. SoFar machine start next new first.left between.left was fin)
-        (λ was is fin read wrote. goes_on machine start command next old new first.left between.left was is fin answer read wrote takes from.reads.number from.reads.most) (read_seen command old new Text first before between from) writes.talk);
+    shown = ap (λ (l : Option (List ℕ)). is_some l) writes.left ∙ (still_shown before.left between.left (concat from.reads.pieces) from.reads.takes.left ∙ from.serving.shown);
+    talk = subst (λ (l : Option (List ℕ)). WhereShown first.talk after.talk (SoFar machine start next new first.left l)) (sym writes.left)
+        (WhereShown-twice first.talk between.talk after.talk (ReadSoFar machine start command old new Text first.left between.left) (λ is fin. fin ≡ after_writing All answer is)
+        (λ was fin. SoFar machine start next new first.left between.left was fin)
+        (λ was is fin read wrote. goes_on machine start command next old new first.left between.left was is fin answer read wrote takes from.reads.number from.reads.most)
+        (read_seen command old new Text first before between from) writes.talk);
   }
   on_by NoLine command next old new first before between after answer is from writes takes = absurd (cc is)
   on_by (TooLong n) command next old new first before between after answer is from writes takes = absurd (cc is)
@@ -207,40 +218,43 @@ module _ {C : Type 0} (machine : Machine C) (start : C) where
   on_by ReadFault command next old new first before between after answer is from writes takes = absurd (cc is)
   on_by OutOfMemory command next old new first before between after answer is from writes takes = absurd (cc is)
 
-  on_written : (written : Written) (command next : C) (old new : Reader) (first before after : Seen) (turn : OneTurn machine command old new (Goes next) before after) (replied : Replied machine command turn.line new (Goes next) turn.between after) → replied.written ≡ written → IsServing command old first before → IsServing next new first after
+  on_written : (written : Written) (command next : C) (old new : Reader) (first before after : Seen) (turn : OneTurn machine command old new (Continue next) before after)
+      (replied : Replied machine command turn.line new (Continue next) turn.between after) → replied.written ≡ written → IsServing command old first before → IsServing next new first after
   on_written All command next old new first before after turn replied is serving =
-      let reply : replied.reply ≡ Goes next = sym (replied.goes ∙ ap (λ (w : Written). after_written w replied.reply) is) in
+      let reply : replied.reply ≡ Continue next = sym (replied.goes ∙ ap (λ (w : Written). after_written w replied.reply) is) in
       let goes = text_goes turn.line command new replied.answer replied.reply next replied.replies reply in
-      on_by turn.line command next old new first before turn.between after replied.answer goes.0 (record { serving = serving; reads = turn.reads; next = turn.next }) (subst (λ (w : Written). Writes turn.between after w replied.answer) is replied.writes) goes.1
+      on_by turn.line command next old new first before turn.between after replied.answer goes.0 (record { serving = serving; reads = turn.reads; next = turn.next })
+      (subst (λ (w : Written). Writes turn.between after w replied.answer) is replied.writes) goes.1
   on_written (Part count) command next old new first before after turn replied is serving =
-      let reply : Goes next ≡ Ends status.WriteFault = replied.goes ∙ ap (λ (w : Written). after_written w replied.reply) is in
+      let reply : Continue next ≡ Finish status.WriteFault = replied.goes ∙ ap (λ (w : Written). after_written w replied.reply) is in
       absurd (cc reply)
 
-  on_puts : (command next : C) (old new : Reader) (first before after : Seen) (turn : OneTurn machine command old new (Goes next) before after) → WantedMemory machine command turn.line (Goes next) turn.between after ⊎ Replied machine command turn.line new (Goes next) turn.between after → IsServing command old first before → IsServing next new first after
+  on_puts : (command next : C) (old new : Reader) (first before after : Seen) (turn : OneTurn machine command old new (Continue next) before after) → WantedMemory machine command turn.line (Continue next) turn.between after
+      ⊎ Replied machine command turn.line new (Continue next) turn.between after → IsServing command old first before → IsServing next new first after
   on_puts command next old new first before after turn (inl wanted) serving = absurd (cc (wanted.ends))
   on_puts command next old new first before after turn (inr replied) serving =
       on_written replied.written command next old new first before after turn replied refl serving
 
   -- a turn after which the run goes on
-  pub serving_goes : (command next : C) (old new : Reader) (first before after : Seen) → IsServing command old first before → OneTurn machine command old new (Goes next) before after → IsServing next new first after
+  pub serving_goes : (command next : C) (old new : Reader) (first before after : Seen) → IsServing command old first before → OneTurn machine command old new (Continue next) before after → IsServing next new first after
   serving_goes command next old new first before after serving turn = on_puts command next old new first before after turn turn.puts serving
 
   -- the number of lines grows, and stays within the input
-  pub counts_up : (command next : C) (old new : Reader) (before after : Seen) → OneTurn machine command old new (Goes next) before after → new.number ≡ old.number + 1
+  pub counts_up : (command next : C) (old new : Reader) (before after : Seen) → OneTurn machine command old new (Continue next) before after → new.number ≡ old.number + 1
   counts_up command next old new before after turn = by_puts turn.puts
     where
-      by_line : (line : Line) → line ≡ Text → new.number ≡ old.number + lines_begun line → new.number ≡ old.number + 1
-      by_line line is number = number ∙ ap (λ (l : Line). old.number + lines_begun l) is
+      by_line : (line : Line) → line ≡ Text → new.number ≡ old.number + lines_started line → new.number ≡ old.number + 1
+      by_line line is number = number ∙ ap (λ (l : Line). old.number + lines_started l) is
 
-      by_written : (written : Written) (replied : Replied machine command turn.line new (Goes next) turn.between after) → replied.written ≡ written → new.number ≡ old.number + 1
+      by_written : (written : Written) (replied : Replied machine command turn.line new (Continue next) turn.between after) → replied.written ≡ written → new.number ≡ old.number + 1
       by_written All replied is =
-          let reply : replied.reply ≡ Goes next = sym (replied.goes ∙ ap (λ (w : Written). after_written w replied.reply) is) in
+          let reply : replied.reply ≡ Continue next = sym (replied.goes ∙ ap (λ (w : Written). after_written w replied.reply) is) in
           by_line turn.line (text_goes turn.line command new replied.answer replied.reply next replied.replies reply).0 turn.reads.number
       by_written (Part count) replied is =
-          let reply : Goes next ≡ Ends status.WriteFault = replied.goes ∙ ap (λ (w : Written). after_written w replied.reply) is in
+          let reply : Continue next ≡ Finish status.WriteFault = replied.goes ∙ ap (λ (w : Written). after_written w replied.reply) is in
           absurd (cc reply)
 
-      by_puts : WantedMemory machine command turn.line (Goes next) turn.between after ⊎ Replied machine command turn.line new (Goes next) turn.between after → new.number ≡ old.number + 1
+      by_puts : WantedMemory machine command turn.line (Continue next) turn.between after ⊎ Replied machine command turn.line new (Continue next) turn.between after → new.number ≡ old.number + 1
       by_puts (inl wanted) = absurd (cc (wanted.ends))
       by_puts (inr replied) = by_written replied.written replied refl
 
@@ -265,7 +279,8 @@ module _ {C : Type 0} (machine : Machine C) (start : C) where
             later = one.later ++ last;
             answered = one.answered;
             put_before = one.put_before;
-            put_after = wrote.put ∙ (ap (λ (l : List ℕ). l ++ last) (read.put ∙ ap (λ (l : List ℕ). was.put ++ l) one.said_is) ∙ (append_assoc was.put (one.by_then ++ one.later) last ∙ (ap (λ (l : List ℕ). was.put ++ l) (append_assoc one.by_then one.later last) ∙ sym (append_assoc was.put one.by_then (one.later ++ last)))));
+            put_after = wrote.put ∙ (ap (λ (l : List ℕ). l ++ last) (read.put ∙ ap (λ (l : List ℕ). was.put ++ l) one.said_is)
+                ∙ (append_assoc was.put (one.by_then ++ one.later) last ∙ (ap (λ (l : List ℕ). was.put ++ l) (append_assoc one.by_then one.later last) ∙ sym (append_assoc was.put one.by_then (one.later ++ last)))));
           };
     }
 
@@ -288,37 +303,43 @@ module _ {C : Type 0} (machine : Machine C) (start : C) where
   one_take true was is fault place = place
   one_take false was is fault place = absurd (cc fault)
 
-  no_take_failed : (command : C) (old new : Reader) (line : Line) (first before between after : Seen) (written : Written) (answer : List ℕ) → is_read_fault line ≡ false → ReadFrom line command old new first before between → Writes between after written answer → NoTakeFailed first after
+  no_take_failed : (command : C) (old new : Reader) (line : Line) (first before between after : Seen) (written : Written) (answer : List ℕ) → is_read_fault line ≡ false → ReadFrom line command old new first before between
+      → Writes between after written answer → NoTakeFailed first after
   no_take_failed command old new line first before between after written answer fault from writes = record {
     count = writes.read_faults ∙ (from.reads.takes.read_faults ∙ (ap (λ (f : Bool). counted_takes f before.read_faults) fault ∙ from.serving.read_faults));
-    place = WhereTold-twice first.talk between.talk after.talk (ReadSoFar machine start command old new line first.left between.left) (λ is fin. fin ≡ after_writing written answer is) (λ was fin. fin.failed_take ≡ was.failed_take)
+    place = WhereShown-twice first.talk between.talk after.talk (ReadSoFar machine start command old new line first.left between.left) (λ is fin. fin ≡ after_writing written answer is) (λ was fin. fin.failed_take ≡ was.failed_take)
         (λ was is fin read changed. (wrote written answer is fin changed).take_same ∙ no_take (is_read_fault line) was is fault read.take_is) (read_seen command old new line first before between from) writes.talk;
   }
 
-  last_take_failed : (command : C) (old new : Reader) (line : Line) (first before between after : Seen) (written : Written) (answer : List ℕ) → is_read_fault line ≡ true → ReadFrom line command old new first before between → Writes between after written answer → LastTakeFailed first after (bytes_put written answer)
+  last_take_failed : (command : C) (old new : Reader) (line : Line) (first before between after : Seen) (written : Written) (answer : List ℕ) → is_read_fault line ≡ true → ReadFrom line command old new first before between
+      → Writes between after written answer → LastTakeFailed first after (bytes_put written answer)
   last_take_failed command old new line first before between after written answer fault from writes = record {
     count = writes.read_faults ∙ (from.reads.takes.read_faults ∙ (ap (λ (f : Bool). counted_takes f before.read_faults) fault ∙ ap raised from.serving.read_faults));
-    place = WhereTold-twice first.talk between.talk after.talk (ReadSoFar machine start command old new line first.left between.left) (λ is fin. fin ≡ after_writing written answer is) (λ was fin. EndsAfterTake fin (bytes_put written answer))
+    place = WhereShown-twice first.talk between.talk after.talk (ReadSoFar machine start command old new line first.left between.left) (λ is fin. fin ≡ after_writing written answer is)
+        (λ was fin. EndsAfterTake fin (bytes_put written answer))
         (λ was is fin read changed.
         let w = wrote written answer is fin changed in
-        (is.put, w.put, w.take_same ∙ (one_take (is_read_fault line) was is fault read.take_is ∙ ap (λ (n : ℕ). Some (let p : TalkPlace = record { taken = n; put = length is.put } in p)) (ap (λ (l : List Piece). length l) (sym w.taken))))) (read_seen command old new line first before between from) writes.talk;
+        (is.put, w.put, w.take_same ∙ (one_take (is_read_fault line) was is fault read.take_is ∙ ap (λ (n : ℕ). Some (let p : TalkPlace = record { taken = n; put = length is.put } in p)) (ap (λ (l : List Piece). length l) (sym w.taken)))))
+        (read_seen command old new line first before between from) writes.talk;
   }
 
   no_put_failed : (command : C) (old new : Reader) (line : Line) (first before between after : Seen) (answer : List ℕ) → ReadFrom line command old new first before between → Writes between after All answer → NoPutFailed first after
   no_put_failed command old new line first before between after answer from writes = record {
     count = writes.write_faults ∙ (from.reads.takes.write_faults ∙ from.serving.write_faults);
-    place = WhereTold-twice first.talk between.talk after.talk (ReadSoFar machine start command old new line first.left between.left) (λ is fin. fin ≡ after_writing All answer is) (λ was fin. fin.failed_put ≡ was.failed_put)
+    place = WhereShown-twice first.talk between.talk after.talk (ReadSoFar machine start command old new line first.left between.left) (λ is fin. fin ≡ after_writing All answer is) (λ was fin. fin.failed_put ≡ was.failed_put)
         (λ was is fin read changed. (wrote All answer is fin changed).put_is ∙ read.put_same) (read_seen command old new line first before between from) writes.talk;
   }
 
-  last_put_failed : (command : C) (old new : Reader) (line : Line) (first before between after : Seen) (count : ℕ) (answer : List ℕ) → ReadFrom line command old new first before between → Writes between after (Part count) answer → LastPutFailed first after
+  last_put_failed : (command : C) (old new : Reader) (line : Line) (first before between after : Seen) (count : ℕ) (answer : List ℕ) → ReadFrom line command old new first before between → Writes between after (Part count) answer
+      → LastPutFailed first after
   last_put_failed command old new line first before between after count answer from writes = record {
     count = writes.write_faults ∙ ap raised (from.reads.takes.write_faults ∙ from.serving.write_faults);
-    place = WhereTold-twice first.talk between.talk after.talk (ReadSoFar machine start command old new line first.left between.left) (λ is fin. fin ≡ after_writing (Part count) answer is) (λ was fin. fin.failed_put ≡ Some (place_in_talk fin))
+    place = WhereShown-twice first.talk between.talk after.talk (ReadSoFar machine start command old new line first.left between.left) (λ is fin. fin ≡ after_writing (Part count) answer is)
+        (λ was fin. fin.failed_put ≡ Some (place_in_talk fin))
         (λ was is fin read changed. (wrote (Part count) answer is fin changed).put_is) (read_seen command old new line first before between from) writes.talk;
   }
 
-  -- what is ahead of a run, where what is left is told
+  -- what is ahead of a run, if what is left is shown
   pub record Ahead (command : C) (old new : Reader) (line : Line) (lines : List InputLine) (pieces : List Piece) (input untaken : List ℕ) : Type 0 where
     pub before : List ℕ
     pub divided : input_lines input ≡ lines ++ input_lines (remaining old before)
@@ -328,7 +349,8 @@ module _ {C : Type 0} (machine : Machine C) (start : C) where
   -- what was put is right for whatever was ahead
   abbrev PutsAhead : Status → C → Reader → Reader → Line → Seen → Seen → Written → List ℕ → Type 0
   PutsAhead s command old new line first between written answer =
-      (was is : Talk) (input untaken : List ℕ) (read : ReadSoFar machine start command old new line first.left between.left was is) → Ahead command old new line read.lines read.pieces input untaken → PutsFor machine start s input untaken (read.said ++ bytes_put written answer) read.pieces
+      (was is : Talk) (input untaken : List ℕ) (read : ReadSoFar machine start command old new line first.left between.left was is) → Ahead command old new line read.lines read.pieces input untaken
+      → PutsFor machine start s input untaken (read.said ++ bytes_put written answer) read.pieces
 
   -- a run that ends so, by what was put for what was ahead
   serves_by : (s : Status) (command : C) (old new : Reader) (line : Line) (first before between after : Seen) (written : Written) (answer : List ℕ) →
@@ -337,18 +359,23 @@ module _ {C : Type 0} (machine : Machine C) (start : C) where
       Serves machine start s first after
   serves_by s command old new line first before between after written answer from writes calls puts = record {
     calls = calls;
-    prompt = WhereTold-twice first.talk between.talk after.talk (ReadSoFar machine start command old new line first.left between.left) (λ is fin. fin ≡ after_writing written answer is) (IsPrompt machine start)
+    prompt = WhereShown-twice first.talk between.talk after.talk (ReadSoFar machine start command old new line first.left between.left) (λ is fin. fin ≡ after_writing written answer is) (IsPrompt machine start)
         (λ was is fin read changed. is_prompt command old new line first.left between.left was is fin written answer read (wrote written answer is fin changed)) (read_seen command old new line first before between from) writes.talk;
-    puts = WhereTold-twice first.talk between.talk after.talk (ReadSoFar machine start command old new line first.left between.left) (λ is fin. fin ≡ after_writing written answer is) (λ was fin. WhereTold first.left after.left (Puts machine start s was fin))
-        (λ was is fin read changed. subst (λ (l : Option (List ℕ)). WhereTold first.left l (Puts machine start s was fin)) (sym writes.left)
-        (WhereTold-so first.left between.left (λ input untaken. ((b : List ℕ) × (input_lines input ≡ read.lines ++ input_lines (remaining old b)) × GivesFirst (machine.longest command) old new line b untaken) × (input ≡ bytes_of read.pieces ++ untaken)) (Puts machine start s was fin)
-        (λ input untaken told. puts_are command old new line first.left between.left was is fin written answer s input untaken read (wrote written answer is fin changed) (puts was is input untaken read (record { before = told.0.0; divided = told.0.1; gives = told.0.2; all = told.1 })))
-        (told_left first.left between.left (bytes_of read.pieces) (λ input rest. (b : List ℕ) × (input_lines input ≡ read.lines ++ input_lines (remaining old b)) × GivesFirst (machine.longest command) old new line b rest) read.left read.ahead))) (read_seen command old new line first before between from) writes.talk;
-    told = ap (λ (l : Option (List ℕ)). is_some l) writes.left ∙ (still_told before.left between.left (concat from.reads.pieces) from.reads.takes.left ∙ from.serving.told);
+    puts = WhereShown-twice first.talk between.talk after.talk (ReadSoFar machine start command old new line first.left between.left) (λ is fin. fin ≡ after_writing written answer is)
+        (λ was fin. WhereShown first.left after.left (Puts machine start s was fin))
+        (λ was is fin read changed. subst (λ (l : Option (List ℕ)). WhereShown first.left l (Puts machine start s was fin)) (sym writes.left)
+        (WhereShown-so first.left between.left (λ input untaken. ((b : List ℕ) × (input_lines input ≡ read.lines ++ input_lines (remaining old b)) × GivesFirst (machine.longest command) old new line b untaken)
+        × (input ≡ bytes_of read.pieces ++ untaken)) (Puts machine start s was fin)
+        (λ input untaken shown. puts_are command old new line first.left between.left was is fin written answer s input untaken read (wrote written answer is fin changed)
+        (puts was is input untaken read (record { before = shown.0.0; divided = shown.0.1; gives = shown.0.2; all = shown.1 })))
+        (shown_left first.left between.left (bytes_of read.pieces) (λ input rest. (b : List ℕ) × (input_lines input ≡ read.lines ++ input_lines (remaining old b)) × GivesFirst (machine.longest command) old new line b rest) read.left
+        read.ahead))) (read_seen command old new line first before between from) writes.talk;
+    shown = ap (λ (l : Option (List ℕ)). is_some l) writes.left ∙ (still_shown before.left between.left (concat from.reads.pieces) from.reads.takes.left ∙ from.serving.shown);
   }
 
-  -- a reply that ends a run, where no take failed, is the end of the command
-  ended_reply : (line : Line) (command : C) (new : Reader) (answer : List ℕ) (reply : Turn C) (s : Status) → is_read_fault line ≡ false → ReplyTo machine command line new answer reply → Ends s ≡ reply → (end : End) × (s ≡ status.Ended end)
+  -- a reply that ends a run, if no take failed, is the end of the command
+  ended_reply : (line : Line) (command : C) (new : Reader) (answer : List ℕ) (reply : Turn C) (s : Status) → is_read_fault line ≡ false → ReplyTo machine command line new answer reply → Finish s ≡ reply
+      → (end : End) × (s ≡ status.Ended end)
   ended_reply Text command new answer reply s fault replies is = let e = turn_ends replies.0 s (is ∙ replies.1) in (e.0, e.2)
   ended_reply NoLine command new answer reply s fault replies is = (replies.0, cc (is, replies.1))
   ended_reply (TooLong n) command new answer reply s fault replies is = (replies.0, cc (is, replies.1))
@@ -356,13 +383,13 @@ module _ {C : Type 0} (machine : Machine C) (start : C) where
   ended_reply ReadFault command new answer reply s fault replies is = absurd (cc fault)
   ended_reply OutOfMemory command new answer reply s fault replies is = absurd replies
 
-  same_end : (how : Onward C) (end : End) → Ends (status.Ended end) ≡ turn_of how → how ≡ onward.Ends end
-  same_end (onward.Goes state) end is = absurd (cc is)
-  same_end (onward.Ends other) end is = cc is
+  same_end : (how : Flow C) (end : End) → Finish (status.Ended end) ≡ turn_of how → how ≡ flow.Finish end
+  same_end (flow.Continue state) end is = absurd (cc is)
+  same_end (flow.Finish other) end is = cc is
 
   -- the command ended the run
   ends_whole : (end : End) (command : C) (old new : Reader) (line : Line) (first before between after : Seen) (answer : List ℕ) (reply : Turn C) → is_read_fault line ≡ false →
-      ReadFrom line command old new first before between → Writes between after All answer → ReplyTo machine command line new answer reply → Ends (status.Ended end) ≡ reply →
+      ReadFrom line command old new first before between → Writes between after All answer → ReplyTo machine command line new answer reply → Finish (status.Ended end) ≡ reply →
       Serves machine start (status.Ended end) first after
   ends_whole end command old new line first before between after answer reply fault from writes replies is =
       serves_by (status.Ended end) command old new line first before between after All answer from writes
@@ -378,12 +405,13 @@ module _ {C : Type 0} (machine : Machine C) (start : C) where
         last = answer;
         divided = ahead.divided;
         answers = read.answers;
-        ends = subst (λ (h : Onward C). Replies machine (here command old) (input_lines (remaining old ahead.before)) answer h) how one.replies;
+        ends = subst (λ (h : Flow C). Replies machine (here command old) (input_lines (remaining old ahead.before)) answer h) how one.replies;
         all = refl;
       })
 
   -- a put failed, at the reply of the command
-  breaks_at_put : (command : C) (old new : Reader) (line : Line) (first before between after : Seen) (count : ℕ) (answer : List ℕ) (reply : Turn C) → is_read_fault line ≡ false → ReadFrom line command old new first before between → Writes between after (Part count) answer → ReplyTo machine command line new answer reply → Serves machine start status.WriteFault first after
+  breaks_at_put : (command : C) (old new : Reader) (line : Line) (first before between after : Seen) (count : ℕ) (answer : List ℕ) (reply : Turn C) → is_read_fault line ≡ false → ReadFrom line command old new first before between
+      → Writes between after (Part count) answer → ReplyTo machine command line new answer reply → Serves machine start status.WriteFault first after
   breaks_at_put command old new line first before between after count answer reply fault from writes replies =
       serves_by status.WriteFault command old new line first before between after (Part count) answer from writes
       (inl (no_take_failed command old new line first before between after (Part count) answer fault from writes), last_put_failed command old new line first before between after count answer from writes)
@@ -395,7 +423,7 @@ module _ {C : Type 0} (machine : Machine C) (start : C) where
         said = read.said;
         there = here command old;
         answer = answer;
-        onward = one.how;
+        flow = one.how;
         last = take count answer;
         divided = ahead.divided;
         answers = read.answers;
@@ -412,18 +440,22 @@ module _ {C : Type 0} (machine : Machine C) (start : C) where
       (λ was it input untaken read ahead. record { taken = bytes_of read.pieces; said = read.said; all_taken = ahead.all; answered = read.cut_off refl; all = refl })
 
   -- a take failed, and then a put
-  breaks_at_both : (command : C) (old new : Reader) (first before between after : Seen) (count : ℕ) → ReadFrom ReadFault command old new first before between → Writes between after (Part count) read_fault_line → Serves machine start status.WriteFault first after
+  breaks_at_both : (command : C) (old new : Reader) (first before between after : Seen) (count : ℕ) → ReadFrom ReadFault command old new first before between → Writes between after (Part count) read_fault_line
+      → Serves machine start status.WriteFault first after
   breaks_at_both command old new first before between after count from writes =
       let part = part_is count read_fault_line writes.part in
-      serves_by status.WriteFault command old new ReadFault first before between after (Part count) read_fault_line from writes
-      (inr (take count read_fault_line, part, last_take_failed command old new ReadFault first before between after (Part count) read_fault_line refl from writes), last_put_failed command old new ReadFault first before between after count read_fault_line from writes)
+      serves_by status.WriteFault command old new ReadFault first before between after (Part count) read_fault_line from writes (
+        inr (take count read_fault_line, part, last_take_failed command old new ReadFault first before between after (Part count) read_fault_line refl from writes),
+        last_put_failed command old new ReadFault first before between after count
+            read_fault_line from writes,
+      )
       (λ was it input untaken read ahead. inr (take count read_fault_line, part, record { taken = bytes_of read.pieces; said = read.said; all_taken = ahead.all; answered = read.cut_off refl; all = refl }))
 
   -- there was no memory at a line
   nothing_writes : (now : Seen) → Writes now now All []
   nothing_writes now = record {
     part = tt;
-    talk = WhereTold-same now.talk (λ is fin. fin ≡ after_writing All [] is) with_put-nil;
+    talk = WhereShown-same now.talk (λ is fin. fin ≡ after_writing All [] is) with_put-nil;
     left = refl;
     read_faults = refl;
     write_faults = refl;
@@ -472,7 +504,8 @@ module _ {C : Type 0} (machine : Machine C) (start : C) where
         not_whole = in_time_pieces was.put read.lines read.said read.pieces read.in_time;
       }))
 
-  wanted_by : (line : Line) (command : C) (old new : Reader) (first before between : Seen) → (line ≡ Text) ⊎ (line ≡ OutOfMemory) → ReadFrom line command old new first before between → machine.may_want command → Serves machine start status.NoMemory first between
+  wanted_by : (line : Line) (command : C) (old new : Reader) (first before between : Seen) → (line ≡ Text) ⊎ (line ≡ OutOfMemory) → ReadFrom line command old new first before between → machine.may_want command
+      → Serves machine start status.NoMemory first between
   wanted_by Text command old new first before between is from may_want = wants command old new first before between from may_want
   wanted_by OutOfMemory command old new first before between is from may_want = wants_inside command old new first before between from may_want
   wanted_by NoLine command old new first before between (inl is) from may_want = absurd (cc is)
@@ -486,21 +519,22 @@ module _ {C : Type 0} (machine : Machine C) (start : C) where
 
   -- a reply that was written ends the run so
   abbrev EndsSo : Status → Written → Turn C → Type 0
-  EndsSo s written reply = Ends s ≡ after_written written reply
+  EndsSo s written reply = Finish s ≡ after_written written reply
 
   answered : (line : Line) (written : Written) (s : Status) (command : C) (old new : Reader) (first before between after : Seen) (answer : List ℕ) (reply : Turn C) → is_read_fault line ≡ false →
       ReadFrom line command old new first before between → Writes between after written answer → ReplyTo machine command line new answer reply → EndsSo s written reply →
       Serves machine start s first after
   answered line All s command old new first before between after answer reply fault from writes replies is =
       let end = ended_reply line command new answer reply s fault replies is in
-      let same : Ends (status.Ended end.0) ≡ reply = ap (λ (t : Status). let turn : Turn C = Ends t in turn) (sym end.1) ∙ is in
+      let same : Finish (status.Ended end.0) ≡ reply = ap (λ (t : Status). let turn : Turn C = Finish t in turn) (sym end.1) ∙ is in
       subst (λ (t : Status). Serves machine start t first after) (sym end.1) (ends_whole end.0 command old new line first before between after answer reply fault from writes replies same)
   answered line (Part count) s command old new first before between after answer reply fault from writes replies is =
       let same : status.WriteFault ≡ s = cc is in
       subst (λ (t : Status). Serves machine start t first after) same (breaks_at_put command old new line first before between after count answer reply fault from writes replies)
 
   -- the last turn, by what the reader answered and what was put
-  ends_by : (line : Line) (written : Written) (s : Status) (command : C) (old new : Reader) (first before between after : Seen) (answer : List ℕ) (reply : Turn C) → ReadFrom line command old new first before between → Writes between after written answer → ReplyTo machine command line new answer reply → EndsSo s written reply → Serves machine start s first after
+  ends_by : (line : Line) (written : Written) (s : Status) (command : C) (old new : Reader) (first before between after : Seen) (answer : List ℕ) (reply : Turn C) → ReadFrom line command old new first before between
+      → Writes between after written answer → ReplyTo machine command line new answer reply → EndsSo s written reply → Serves machine start s first after
   ends_by ReadFault All s command old new first before between after answer reply from writes replies is =
       let same : status.ReadFault ≡ s = cc (is, replies.1) in
       subst (λ (t : Status). Serves machine start t first after) same (breaks_at_take command old new first before between after from (subst (λ (a : List ℕ). Writes between after All a) replies.0 writes))
@@ -513,27 +547,41 @@ module _ {C : Type 0} (machine : Machine C) (start : C) where
   ends_by (TooLong n) written s command old new first before between after answer reply from writes replies is = answered (TooLong n) written s command old new first before between after answer reply refl from writes replies is
   ends_by (TooMuch n) written s command old new first before between after answer reply from writes replies is = answered (TooMuch n) written s command old new first before between after answer reply refl from writes replies is
 
-  ends_wanted : (line : Line) (s : Status) (command : C) (old new : Reader) (first before between after : Seen) → ReadFrom line command old new first before between → WantedMemory machine command line (Ends s) between after → Serves machine start s first after
+  ends_wanted : (line : Line) (s : Status) (command : C) (old new : Reader) (first before between after : Seen) → ReadFrom line command old new first before between → WantedMemory machine command line (Finish s) between after
+      → Serves machine start s first after
   ends_wanted line s command old new first before between after from wanted =
       let same : status.NoMemory ≡ s = cc (wanted.ends) in
       subst (λ (t : Status). Serves machine start t first after) same (subst (λ (a : Seen). Serves machine start status.NoMemory first a) (sym wanted.same)
       (wanted_by line command old new first before between wanted.at_line from wanted.may_want))
 
-  ends_puts : (s : Status) (command : C) (old new : Reader) (first before after : Seen) (turn : OneTurn machine command old new (Ends s) before after) → WantedMemory machine command turn.line (Ends s) turn.between after ⊎ Replied machine command turn.line new (Ends s) turn.between after → IsServing command old first before → Serves machine start s first after
+  ends_puts : (s : Status) (command : C) (old new : Reader) (first before after : Seen) (turn : OneTurn machine command old new (Finish s) before after)
+      → WantedMemory machine command turn.line (Finish s) turn.between after ⊎ Replied machine command turn.line new (Finish s) turn.between after → IsServing command old first before → Serves machine start s first after
   ends_puts s command old new first before after turn (inl wanted) serving =
       ends_wanted turn.line s command old new first before turn.between after (record { serving = serving; reads = turn.reads; next = turn.next }) wanted
   ends_puts s command old new first before after turn (inr replied) serving =
       ends_by turn.line replied.written s command old new first before turn.between after replied.answer replied.reply (record { serving = serving; reads = turn.reads; next = turn.next }) replied.writes replied.replies replied.goes
 
   -- the last turn of a run
-  pub serving_ends : (s : Status) (command : C) (old new : Reader) (first before after : Seen) → IsServing command old first before → OneTurn machine command old new (Ends s) before after → Serves machine start s first after
+  pub serving_ends : (s : Status) (command : C) (old new : Reader) (first before after : Seen) → IsServing command old first before → OneTurn machine command old new (Finish s) before after → Serves machine start s first after
   serving_ends s command old new first before after serving turn = ends_puts s command old new first before after turn turn.puts serving
 
   -- no memory to begin with
   pub nothing_served : (now : Seen) → Serves machine start status.NoMemory now now
   nothing_served now = record {
-    calls = (record { count = refl; place = WhereTold-same now.talk (λ was is. is.failed_take ≡ was.failed_take) (λ t. refl) }, record { count = refl; place = WhereTold-same now.talk (λ was is. is.failed_put ≡ was.failed_put) (λ t. refl) });
-    prompt = WhereTold-same now.talk (IsPrompt machine start) (λ t. record { pieces = []; taken = sym (append-nil t.taken); promptly = λ seen later piece split. no_piece seen later piece (IsTakenPromptly machine start t t seen piece) split });
-    puts = WhereTold-same now.talk (λ was is. WhereTold now.left now.left (λ input untaken. Puts machine start status.NoMemory was is input untaken)) (λ t. WhereTold-same now.left (λ input untaken. Puts machine start status.NoMemory t t input untaken) (λ input. record { pieces = []; put = []; taken = sym (append-nil t.taken); all = sym (append-nil t.put); puts = inr (refl, refl) }));
-    told = refl;
+    calls = (
+      record { count = refl; place = WhereShown-same now.talk (λ was is. is.failed_take ≡ was.failed_take) (λ t. refl) },
+      record {
+        count = refl;
+        place = WhereShown-same now.talk (λ was is. is.failed_put ≡ was.failed_put) (λ t. refl);
+      },
+    );
+    prompt = WhereShown-same now.talk (IsPrompt machine start) (λ t. record {
+      pieces = [];
+      taken = sym (append-nil t.taken);
+      promptly = λ seen later piece split. no_piece seen later piece (IsTakenPromptly machine start t t seen piece) split;
+    });
+    puts = WhereShown-same now.talk (λ was is. WhereShown now.left now.left (λ input untaken. Puts machine start status.NoMemory was is input untaken))
+        (λ t. WhereShown-same now.left (λ input untaken. Puts machine start status.NoMemory t t input untaken)
+        (λ input. record { pieces = []; put = []; taken = sym (append-nil t.taken); all = sym (append-nil t.put); puts = inr (refl, refl) }));
+    shown = refl;
   }

@@ -1,13 +1,13 @@
 pub mod WordLemmas
 pub mod RunLemmas
 pub mod SingleLemmas
-pub mod AskedLemmas
+pub mod AnswersOnceLemmas
 pub mod PairLemmas
 pub mod PhaseLemmas
 pub mod TakenLemmas
 pub mod TurnLemmas
 pub mod EndLemmas
-pub mod FrontLemmas
+pub mod PrefixLemmas
 pub mod BytesLemmas
 pub mod WrapLemmas
 pub mod LeadLemmas
@@ -16,4 +16,4 @@ pub mod InputLemmas
 pub mod GrammarLemmas
 pub mod AlternativeLemmas
 pub mod PairGrammarLemmas
-pub mod TestingLemmas
+pub mod TestedTextLemmas

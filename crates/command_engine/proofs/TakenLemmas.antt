@@ -28,7 +28,8 @@ split_append (x ∷ xs) ys (s ∷ seen) later piece is =
     let tail : xs ++ ys ≡ seen ++ piece ∷ later = cc in
     split_cons x s xs ys seen later piece head (split_append xs ys seen later piece tail)
   where
-    split_cons : (x s : Piece) (xs ys seen later : List Piece) (piece : Piece) → x ≡ s → ((more : List Piece) × (xs ≡ seen ++ piece ∷ more)) ⊎ ((more : List Piece) × (seen ≡ xs ++ more) × (ys ≡ more ++ piece ∷ later)) → ((more : List Piece) × (x ∷ xs ≡ (s ∷ seen) ++ piece ∷ more)) ⊎ ((more : List Piece) × (s ∷ seen ≡ (x ∷ xs) ++ more) × (ys ≡ more ++ piece ∷ later))
+    split_cons : (x s : Piece) (xs ys seen later : List Piece) (piece : Piece) → x ≡ s → ((more : List Piece) × (xs ≡ seen ++ piece ∷ more)) ⊎ ((more : List Piece) × (seen ≡ xs ++ more) × (ys ≡ more ++ piece ∷ later))
+        → ((more : List Piece) × (x ∷ xs ≡ (s ∷ seen) ++ piece ∷ more)) ⊎ ((more : List Piece) × (s ∷ seen ≡ (x ∷ xs) ++ more) × (ys ≡ more ++ piece ∷ later))
     split_cons x s xs ys seen later piece head (inl one) = inl (one.0, cc)
     split_cons x s xs ys seen later piece head (inr other) = inr (other.0, cc, other.2)
 
@@ -71,14 +72,15 @@ first_is : (bytes : List ℕ) (line : InputLine) (text : List ℕ) (others : Lis
 first_is bytes line text others is lines =
     let cut = first_cut bytes text others lines in
     let size : length text + 1 ≡ suc (length text) = omega arith in
-    let front : take (line_size line) bytes ≡ text ++ 10 ∷ [] =
+    let prefix : take (line_size line) bytes ≡ text ++ 10 ∷ [] =
     ap (λ (l : InputLine). take (line_size l) bytes) is ∙ (ap (λ (n : ℕ). take n bytes) size ∙ (ap (λ (l : List ℕ). take (suc (length text)) l) cut.bytes_are ∙ take_past text cut.rest)) in
     record {
-      whole = ap whole_lines front ∙ (whole_lines_is (text ++ 10 ∷ []) ∙ (cut.begins.whole (10 ∷ []) ∙ ap (λ (l : InputLine). l.text ∷ []) (sym is)));
-      closed = ap unfinished front ∙ (unfinished_is (text ++ 10 ∷ []) ∙ cut.begins.rest (10 ∷ []));
+      whole = ap whole_lines prefix ∙ (whole_lines_is (text ++ 10 ∷ []) ∙ (cut.begins.whole (10 ∷ []) ∙ ap (λ (l : InputLine). l.text ∷ []) (sym is)));
+      closed = ap unfinished prefix ∙ (unfinished_is (text ++ 10 ∷ []) ∙ cut.begins.rest (10 ∷ []));
     }
 
-first_by : (bytes : List ℕ) (line : InputLine) (others : List InputLine) (wholes : List (List ℕ)) (last : List ℕ) → whole_lines bytes ≡ wholes → map whole_line wholes ++ last_line last ≡ line ∷ others → line.ended ≡ true → FirstWhole bytes line
+first_by : (bytes : List ℕ) (line : InputLine) (others : List InputLine) (wholes : List (List ℕ)) (last : List ℕ) → whole_lines bytes ≡ wholes → map whole_line wholes ++ last_line last ≡ line ∷ others → line.ended ≡ true
+    → FirstWhole bytes line
 first_by bytes line others [] [] lines is ended = absurd (cc)
 first_by bytes line others [] (byte ∷ more) lines is ended =
     let head : open_line (byte ∷ more) ≡ line = cc in

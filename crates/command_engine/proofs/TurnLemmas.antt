@@ -5,17 +5,17 @@ use Rattle.std.specs.List.{concat}
 use Rattle.std.proofs.lemmas.List.{map-append}
 use Rattle.texts.specs.Lines.{InputLine, input_lines, whole_lines, unfinished, whole_line, open_line, line_size}
 use Rattle.plan_port.specs.Lines.{Coming, Comes, TooLong as LongLine, TooMuch as MuchInput, coming, DecideNothing}
-use Rattle.plan_port.specs.Talk.{Piece, Talk, Seen, WhereTold, LosesFront, place_in_talk}
-use Rattle.plan_port.specs.Reader.{Reader, room, remaining, is_read_fault, after_takes, Takes, answer_by, answer_to, answer, without_line, ReadsNext, GivesFirst, GivesNext, WantsRoom}
+use Rattle.plan_port.specs.Talk.{Piece, Talk, Seen, WhereShown, LosesPrefix, place_in_talk}
+use Rattle.plan_port.specs.Reader.{Reader, spare_capacity, remaining, is_read_fault, after_takes, Takes, answer_by, answer_to, answer, without_line, ReadsNext, GivesFirst, GivesNext, WantsCapacity}
 use Rattle.plan_port.specs.declared.lines.Line.{Line}
 use Rattle.plan_port.specs.declared.lines.Line.TheVariants.{Text, End, TooLong, TooMuch, ReadFault, OutOfMemory}
-use Rattle.plan_port.proofs.Talks.{WhereTold-twice, WhereTold-so, LosesFront-twice}
+use Rattle.plan_port.proofs.Talks.{WhereShown-twice, WhereShown-so, LosesPrefix-twice}
 use Rattle.command_engine.specs.Machine.{Machine}
 use Rattle.command_engine.specs.Runs.{Here, begins, after_line, Replies, Answers, Answered}
 use Rattle.command_engine.specs.Prompt.{bytes_of}
 use Rattle.command_engine.proofs.TakenLemmas.{piece_at, bytes_of-append, bytes_of-map, split_append, one_of, whole_lines-closed, unfinished-closed, first_whole}
 use Rattle.command_engine.proofs.RunLemmas.{Answers-more, replies_to_line}
-use Rattle.command_engine.specs.declared.machines.Onward.TheVariants as onward
+use Rattle.command_engine.specs.declared.machines.Flow.TheVariants as flow
 
 -- the bytes that the reader gave out, of those taken, while the input has not ended: their lines are those that were answered
 pub record Held (pieces : List Piece) (lines : List InputLine) (kept : List ℕ) : Type 0 where
@@ -27,7 +27,7 @@ pub record Held (pieces : List Piece) (lines : List InputLine) (kept : List ℕ)
 module _ {C : Type 0} (machine : Machine C) (start : C) where
   -- where the run stands, by the state of the command and the reader
   abbrev pub here_at : C → Reader → Here C
-  here_at command reader = record { state = command; number = reader.number; room = room reader }
+  here_at command reader = record { state = command; number = reader.number; spare_capacity = spare_capacity reader }
 
   -- a piece was taken promptly, before all but the first of these lines were whole
   pub record InTime (put : List ℕ) (lines : List InputLine) (said : List ℕ) (seen : List Piece) (piece : Piece) : Type 0 where
@@ -56,7 +56,7 @@ module _ {C : Type 0} (machine : Machine C) (start : C) where
         lines_are = ap (λ (l : List InputLine). l ++ line ∷ []) one.lines_are ∙ append_assoc (map whole_line (whole_lines (bytes_of seen))) one.others (line ∷ []);
       }
 
-  -- how far a run has come between two turns, over a port that tells its talk
+  -- how far a run has come between two turns, over a port that shows its talk
   pub record SoFar (command : C) (reader : Reader) (left_first left_now : Option (List ℕ)) (was is : Talk) : Type 0 where
     pub pieces : List Piece
     pub lines : List InputLine
@@ -68,17 +68,17 @@ module _ {C : Type 0} (machine : Machine C) (start : C) where
     pub answers : Answers machine (begins start) lines said (here_at command reader)
     pub in_time : AreInTime was.put lines said pieces
     pub held : reader.ended ≡ false → Held pieces lines reader.kept
-    pub left : LosesFront left_first left_now (bytes_of pieces)
-    pub ahead : WhereTold left_first left_now (λ input rest. input_lines input ≡ lines ++ input_lines (remaining reader rest))
+    pub left : LosesPrefix left_first left_now (bytes_of pieces)
+    pub ahead : WhereShown left_first left_now (λ input rest. input_lines input ≡ lines ++ input_lines (remaining reader rest))
 
   -- the line that the reader gave, and what it holds then
   pub record Given (command : C) (old new : Reader) (pieces : List Piece) (lines : List InputLine) (line : InputLine) : Type 0 where
-    pub comes : coming (machine.longest command) (room old) line ≡ Comes
+    pub comes : coming (machine.longest command) (spare_capacity old) line ≡ Comes
     pub text : new.text ≡ line.text
     pub place : new.before ≡ old.before + line_size line
     pub held : new.ended ≡ false → Held pieces (lines ++ line ∷ []) new.kept
 
-  -- where the last take failed
+  -- if the last take failed
   abbrev pub take_place : Bool → Talk → Talk → Type 0
   take_place true was is = is.failed_take ≡ Some (place_in_talk is)
   take_place false was is = is.failed_take ≡ was.failed_take
@@ -94,8 +94,8 @@ module _ {C : Type 0} (machine : Machine C) (start : C) where
     pub put_same : is.failed_put ≡ was.failed_put
     pub answers : Answers machine (begins start) lines said (here_at command old)
     pub in_time : AreInTime was.put lines said pieces
-    pub left : LosesFront left_first left_now (bytes_of pieces)
-    pub ahead : WhereTold left_first left_now (λ input rest. (before : List ℕ) × (input_lines input ≡ lines ++ input_lines (remaining old before)) × GivesFirst (machine.longest command) old new line before rest)
+    pub left : LosesPrefix left_first left_now (bytes_of pieces)
+    pub ahead : WhereShown left_first left_now (λ input rest. (before : List ℕ) × (input_lines input ≡ lines ++ input_lines (remaining old before)) × GivesFirst (machine.longest command) old new line before rest)
     pub gives : line ≡ Text → (one : InputLine) × Given command old new pieces lines one
     pub cut_off : line ≡ ReadFault → Answered machine start (bytes_of pieces) said
 
@@ -114,7 +114,7 @@ module _ {C : Type 0} (machine : Machine C) (start : C) where
   take_on true was mid is same take = take
   take_on false was mid is same take = take ∙ same
 
-  -- the input had not ended where pieces were taken
+  -- the input had not ended if pieces were taken
   not_ended : (longest : ℕ) (old full : Reader) (pieces : List (List ℕ)) (failed : Bool) (before after : Seen) (k : ℕ) → Takes longest old full pieces failed before after → k < length pieces → old.ended ≡ false
   not_ended longest old full pieces failed before after k takes within = by_end old.ended refl
     where
@@ -131,7 +131,7 @@ module _ {C : Type 0} (machine : Machine C) (start : C) where
 
   -- bytes that decide nothing after whole lines that were answered
   undecided_after : (command : C) (reader : Reader) (lines : List InputLine) (said given bytes : List ℕ) → Answers machine (begins start) lines said (here_at command reader) → unfinished given ≡ [] →
-      AreWholeOf given lines → DecideNothing (machine.longest command) (room reader) bytes →
+      AreWholeOf given lines → DecideNothing (machine.longest command) (spare_capacity reader) bytes →
       Answered machine start (given ++ bytes) said × AreWholeOf (given ++ bytes) lines
   undecided_after command reader lines said given bytes answers closed whole nothing =
       let lines_are : whole_lines (given ++ bytes) ≡ whole_lines given = whole_lines-closed given bytes closed ∙ (ap (λ (l : List (List ℕ)). whole_lines given ++ l) nothing.no_line ∙ append-nil (whole_lines given)) in
@@ -139,7 +139,7 @@ module _ {C : Type 0} (machine : Machine C) (start : C) where
         record {
           there = here_at command reader;
           answers = subst (λ (l : List InputLine). Answers machine (begins start) l said (here_at command reader)) (sym all) answers;
-          undecided = subst (λ (l : List ℕ). coming (machine.longest command) (room reader) (open_line l) ≡ Comes) (sym (unfinished-closed given bytes closed)) nothing.within;
+          undecided = subst (λ (l : List ℕ). coming (machine.longest command) (spare_capacity reader) (open_line l) ≡ Comes) (sym (unfinished-closed given bytes closed)) nothing.within;
         },
         all,
       )
@@ -150,7 +150,8 @@ module _ {C : Type 0} (machine : Machine C) (start : C) where
   new_in_time command old full taken failed before after left_first left_now was is so_far takes = λ seen later piece split.
       by_place seen later piece (split_append so_far.pieces (map (piece_at (length is.put)) taken) seen later piece split)
     where
-      by_place : (seen later : List Piece) (piece : Piece) → ((more : List Piece) × (so_far.pieces ≡ seen ++ piece ∷ more)) ⊎ ((more : List Piece) × (seen ≡ so_far.pieces ++ more) × (map (piece_at (length is.put)) taken ≡ more ++ piece ∷ later)) → InTime was.put so_far.lines so_far.said seen piece
+      by_place : (seen later : List Piece) (piece : Piece) → ((more : List Piece) × (so_far.pieces ≡ seen ++ piece ∷ more))
+          ⊎ ((more : List Piece) × (seen ≡ so_far.pieces ++ more) × (map (piece_at (length is.put)) taken ≡ more ++ piece ∷ later)) → InTime was.put so_far.lines so_far.said seen piece
       by_place seen later piece (inl old_one) = so_far.in_time seen old_one.0 piece old_one.1
       by_place seen later piece (inr new_one) =
           let one = one_of (length is.put) taken new_one.0 later piece new_one.2 in
@@ -158,7 +159,8 @@ module _ {C : Type 0} (machine : Machine C) (start : C) where
           let held = so_far.held running in
           let tail : List ℕ = old.kept ++ concat (take one.place taken) in
           let bytes : bytes_of seen ≡ held.given ++ tail =
-          ap bytes_of new_one.1 ∙ (bytes_of-append so_far.pieces new_one.0 ∙ (ap (λ (l : List ℕ). l ++ bytes_of new_one.0) held.bytes ∙ (append_assoc held.given old.kept (bytes_of new_one.0) ∙ ap (λ (l : List ℕ). held.given ++ (old.kept ++ l)) (ap bytes_of one.before ∙ bytes_of-map (length is.put) (take one.place taken))))) in
+          ap bytes_of new_one.1 ∙ (bytes_of-append so_far.pieces new_one.0 ∙ (ap (λ (l : List ℕ). l ++ bytes_of new_one.0) held.bytes
+          ∙ (append_assoc held.given old.kept (bytes_of new_one.0) ∙ ap (λ (l : List ℕ). held.given ++ (old.kept ++ l)) (ap bytes_of one.before ∙ bytes_of-map (length is.put) (take one.place taken))))) in
           let facts = undecided_after command old so_far.lines so_far.said held.given tail so_far.answers held.closed held.whole (takes.undecided one.place one.within) in
           record {
             by_then = so_far.said;
@@ -170,12 +172,12 @@ module _ {C : Type 0} (machine : Machine C) (start : C) where
             lines_are = sym (append-nil (map whole_line (whole_lines (bytes_of seen))) ∙ (ap (λ (l : List ℕ). map whole_line (whole_lines l)) bytes ∙ facts.1));
           }
 
-  -- the line that a reader holds where it answers with a text
+  -- the line that a reader holds if it answers with a text
   pub record HoldsLine (longest : ℕ) (full : Reader) (lines : List InputLine) : Type 0 where
     pub line : InputLine
     pub others : List InputLine
     pub lines_are : lines ≡ line ∷ others
-    pub comes : coming longest (room full) line ≡ Comes
+    pub comes : coming longest (spare_capacity full) line ≡ Comes
     pub ended : (line.ended || full.ended) ≡ true
 
   no_text : (ended : Bool) → Text ≡ (if ended then End else ReadFault) → ⊥
@@ -186,14 +188,14 @@ module _ {C : Type 0} (machine : Machine C) (start : C) where
   text_by_end true is = refl
   text_by_end false is = absurd (cc is)
 
-  text_by : (longest : ℕ) (full : Reader) (line : InputLine) (others : List InputLine) (how : Coming) → coming longest (room full) line ≡ how → Text ≡ answer_by how longest full line → HoldsLine longest full (line ∷ others)
+  text_by : (longest : ℕ) (full : Reader) (line : InputLine) (others : List InputLine) (how : Coming) → coming longest (spare_capacity full) line ≡ how → Text ≡ answer_by how longest full line → HoldsLine longest full (line ∷ others)
   text_by longest full line others Comes how is = record { line = line; others = others; lines_are = refl; comes = how; ended = text_by_end (line.ended || full.ended) is }
   text_by longest full line others LongLine how is = absurd (cc is)
   text_by longest full line others MuchInput how is = absurd (cc is)
 
   holds_line : (longest : ℕ) (full : Reader) (lines : List InputLine) → Text ≡ answer_to longest full lines → HoldsLine longest full lines
   holds_line longest full [] is = absurd (no_text full.ended is)
-  holds_line longest full (line ∷ others) is = text_by longest full line others (coming longest (room full) line) refl is
+  holds_line longest full (line ∷ others) is = text_by longest full line others (coming longest (spare_capacity full) line) refl is
 
   was_running : (longest : ℕ) (old full : Reader) (pieces : List (List ℕ)) (failed : Bool) (before after : Seen) → Takes longest old full pieces failed before after → full.ended ≡ false → old.ended ≡ false
   was_running longest old full pieces failed before after takes running = by_end old.ended refl
@@ -210,26 +212,29 @@ module _ {C : Type 0} (machine : Machine C) (start : C) where
   whole_is line ended = ap (λ (e : Bool). let l : InputLine = record { text = line.text; ended = e } in l) (sym ended)
 
   -- the bytes taken so far are those given out, and those that the reader then holds
-  pieces_held : (old full : Reader) (longest : ℕ) (taken : List (List ℕ)) (failed : Bool) (before after : Seen) (pieces : List Piece) (lines : List InputLine) (put : ℕ) (held : Held pieces lines old.kept) → Takes longest old full taken failed before after → bytes_of (pieces ++ map (piece_at put) taken) ≡ held.given ++ full.kept
+  pieces_held : (old full : Reader) (longest : ℕ) (taken : List (List ℕ)) (failed : Bool) (before after : Seen) (pieces : List Piece) (lines : List InputLine) (put : ℕ) (held : Held pieces lines old.kept)
+      → Takes longest old full taken failed before after → bytes_of (pieces ++ map (piece_at put) taken) ≡ held.given ++ full.kept
   pieces_held old full longest taken failed before after pieces lines put held takes =
       let kept : full.kept ≡ old.kept ++ concat taken = ap (λ (r : Reader). r.kept) takes.reader in
-      bytes_of-append pieces (map (piece_at put) taken) ∙ (ap (λ (l : List ℕ). l ++ bytes_of (map (piece_at put) taken)) held.bytes ∙ (append_assoc held.given old.kept (bytes_of (map (piece_at put) taken)) ∙ ap (λ (l : List ℕ). held.given ++ l) (ap (λ (l : List ℕ). old.kept ++ l) (bytes_of-map put taken) ∙ sym kept)))
+      bytes_of-append pieces (map (piece_at put) taken) ∙ (ap (λ (l : List ℕ). l ++ bytes_of (map (piece_at put) taken)) held.bytes
+      ∙ (append_assoc held.given old.kept (bytes_of (map (piece_at put) taken)) ∙ ap (λ (l : List ℕ). held.given ++ l) (ap (λ (l : List ℕ). old.kept ++ l) (bytes_of-map put taken) ∙ sym kept)))
 
-  text_answered : (longest : ℕ) (full : Reader) → (Text ≡ answer longest full) ⊎ ((Text ≡ OutOfMemory) × WantsRoom longest full) → Text ≡ answer longest full
+  text_answered : (longest : ℕ) (full : Reader) → (Text ≡ answer longest full) ⊎ ((Text ≡ OutOfMemory) × WantsCapacity longest full) → Text ≡ answer longest full
   text_answered longest full (inl is) = is
   text_answered longest full (inr (none, wants)) = absurd (cc none)
 
-  given_line : (command : C) (old new : Reader) (before between : Seen) (left_first : Option (List ℕ)) (was mid : Talk) (so_far : SoFar command old left_first before.left was mid) (reads : ReadsNext (machine.longest command) old new Text before between) → (one : InputLine) × Given command old new (so_far.pieces ++ map (piece_at (length mid.put)) reads.pieces) so_far.lines one
+  given_line : (command : C) (old new : Reader) (before between : Seen) (left_first : Option (List ℕ)) (was mid : Talk) (so_far : SoFar command old left_first before.left was mid)
+      (reads : ReadsNext (machine.longest command) old new Text before between) → (one : InputLine) × Given command old new (so_far.pieces ++ map (piece_at (length mid.put)) reads.pieces) so_far.lines one
   given_line command old new before between left_first was mid so_far reads =
       let full = reads.full in
       let holds = holds_line (machine.longest command) full (input_lines full.kept) (text_answered (machine.longest command) full reads.answered) in
       let size = line_size holds.line in
-      let room_is : room full ≡ room old = ap room reads.takes.reader in
+      let capacity_is : spare_capacity full ≡ spare_capacity old = ap spare_capacity reads.takes.reader in
       let goes : new ≡ record full { text = holds.line.text; kept = drop size full.kept; before = full.before + size; number = full.number + 1; stopped = None } =
       reads.goes_on ∙ ap (λ (ls : List InputLine). record (without_line Text ls full) { number = full.number + 1; stopped = None }) holds.lines_are in (
         holds.line,
         record {
-          comes = subst (λ (r : ℕ). coming (machine.longest command) r holds.line ≡ Comes) room_is holds.comes;
+          comes = subst (λ (r : ℕ). coming (machine.longest command) r holds.line ≡ Comes) capacity_is holds.comes;
           text = ap (λ (r : Reader). r.text) goes;
           place = ap (λ (r : Reader). r.before) goes ∙ ap (λ (r : Reader). r.before + size) reads.takes.reader;
           held = λ running.
@@ -240,24 +245,28 @@ module _ {C : Type 0} (machine : Machine C) (start : C) where
               let kept : new.kept ≡ drop size full.kept = ap (λ (r : Reader). r.kept) goes in
               record {
                 given = held.given ++ take size full.kept;
-                bytes = pieces_held old full (machine.longest command) reads.pieces false before between so_far.pieces so_far.lines (length mid.put) held reads.takes ∙ (ap (λ (l : List ℕ). held.given ++ l) (sym (take-append-drop size full.kept)) ∙ (sym (append_assoc held.given (take size full.kept) (drop size full.kept)) ∙ ap (λ (l : List ℕ). (held.given ++ take size full.kept) ++ l) (sym kept)));
+                bytes = pieces_held old full (machine.longest command) reads.pieces false before between so_far.pieces so_far.lines (length mid.put) held reads.takes
+                    ∙ (ap (λ (l : List ℕ). held.given ++ l) (sym (take-append-drop size full.kept)) ∙ (sym (append_assoc held.given (take size full.kept) (drop size full.kept))
+                    ∙ ap (λ (l : List ℕ). (held.given ++ take size full.kept) ++ l) (sym kept)));
                 closed = unfinished-closed held.given (take size full.kept) held.closed ∙ first.closed;
                 whole = ap (λ (l : List (List ℕ)). map whole_line l) (whole_lines-closed held.given (take size full.kept) held.closed ∙ ap (λ (l : List (List ℕ)). whole_lines held.given ++ l) first.whole) ∙
-                    (map-append whole_line (whole_lines held.given) (holds.line.text ∷ []) ∙ (ap (λ (l : List InputLine). l ++ whole_line holds.line.text ∷ []) held.whole ∙ ap (λ (l : InputLine). so_far.lines ++ l ∷ []) (whole_is holds.line ended)));
+                    (map-append whole_line (whole_lines held.given) (holds.line.text ∷ []) ∙ (ap (λ (l : List InputLine). l ++ whole_line holds.line.text ∷ []) held.whole
+                    ∙ ap (λ (l : InputLine). so_far.lines ++ l ∷ []) (whole_is holds.line ended)));
               };
         },
       )
 
-  cut_off : (command : C) (old new : Reader) (before between : Seen) (left_first : Option (List ℕ)) (was mid : Talk) (so_far : SoFar command old left_first before.left was mid) (reads : ReadsNext (machine.longest command) old new ReadFault before between) → Answered machine start (bytes_of (so_far.pieces ++ map (piece_at (length mid.put)) reads.pieces)) so_far.said
+  cut_off : (command : C) (old new : Reader) (before between : Seen) (left_first : Option (List ℕ)) (was mid : Talk) (so_far : SoFar command old left_first before.left was mid)
+      (reads : ReadsNext (machine.longest command) old new ReadFault before between) → Answered machine start (bytes_of (so_far.pieces ++ map (piece_at (length mid.put)) reads.pieces)) so_far.said
   cut_off command old new before between left_first was mid so_far reads =
       let full = reads.full in
       let cut = reads.cut_off refl in
       let running : full.ended ≡ false = sym (ap (λ (r : Reader). r.ended) reads.goes_on) ∙ cut.0 in
       let held = so_far.held (was_running (machine.longest command) old full reads.pieces true before between reads.takes running) in
       let kept : new.kept ≡ full.kept = ap (λ (r : Reader). r.kept) reads.goes_on in
-      let room_is : room new ≡ room old = ap room reads.goes_on ∙ ap room reads.takes.reader in
-      let nothing : DecideNothing (machine.longest command) (room old) full.kept =
-      subst (λ (l : List ℕ). DecideNothing (machine.longest command) (room old) l) kept (subst (λ (r : ℕ). DecideNothing (machine.longest command) r new.kept) room_is cut.1) in
+      let capacity_is : spare_capacity new ≡ spare_capacity old = ap spare_capacity reads.goes_on ∙ ap spare_capacity reads.takes.reader in
+      let nothing : DecideNothing (machine.longest command) (spare_capacity old) full.kept =
+      subst (λ (l : List ℕ). DecideNothing (machine.longest command) (spare_capacity old) l) kept (subst (λ (r : ℕ). DecideNothing (machine.longest command) r new.kept) capacity_is cut.1) in
       let facts = undecided_after command old so_far.lines so_far.said held.given full.kept so_far.answers held.closed held.whole nothing in
       subst (λ (l : List ℕ). Answered machine start l so_far.said) (sym (pieces_held old full (machine.longest command) reads.pieces true before between so_far.pieces so_far.lines (length mid.put) held reads.takes)) facts.0
 
@@ -266,9 +275,10 @@ module _ {C : Type 0} (machine : Machine C) (start : C) where
   ReadsOne command old new line before between = ReadsNext (machine.longest command) old new line before between
 
   abbrev pub GivesOne : C → Reader → Reader → Line → Seen → Seen → Type 0
-  GivesOne command old new line before between = WhereTold before.left between.left (GivesNext (machine.longest command) old new line)
+  GivesOne command old new line before between = WhereShown before.left between.left (GivesNext (machine.longest command) old new line)
 
-  gives_by : (line : Line) (command : C) (old new : Reader) (before between : Seen) (left_first : Option (List ℕ)) (was mid : Talk) (so_far : SoFar command old left_first before.left was mid) (reads : ReadsOne command old new line before between) →
+  gives_by : (line : Line) (command : C) (old new : Reader) (before between : Seen) (left_first : Option (List ℕ)) (was mid : Talk) (so_far : SoFar command old left_first before.left was mid)
+      (reads : ReadsOne command old new line before between) →
       line ≡ Text → (one : InputLine) × Given command old new (so_far.pieces ++ map (piece_at (length mid.put)) reads.pieces) so_far.lines one
   gives_by Text command old new before between left_first was mid so_far reads is = given_line command old new before between left_first was mid so_far reads
   gives_by End command old new before between left_first was mid so_far reads is = absurd (cc is)
@@ -277,7 +287,8 @@ module _ {C : Type 0} (machine : Machine C) (start : C) where
   gives_by ReadFault command old new before between left_first was mid so_far reads is = absurd (cc is)
   gives_by OutOfMemory command old new before between left_first was mid so_far reads is = absurd (cc is)
 
-  cut_off_by : (line : Line) (command : C) (old new : Reader) (before between : Seen) (left_first : Option (List ℕ)) (was mid : Talk) (so_far : SoFar command old left_first before.left was mid) (reads : ReadsOne command old new line before between) →
+  cut_off_by : (line : Line) (command : C) (old new : Reader) (before between : Seen) (left_first : Option (List ℕ)) (was mid : Talk) (so_far : SoFar command old left_first before.left was mid)
+      (reads : ReadsOne command old new line before between) →
       line ≡ ReadFault → Answered machine start (bytes_of (so_far.pieces ++ map (piece_at (length mid.put)) reads.pieces)) so_far.said
   cut_off_by ReadFault command old new before between left_first was mid so_far reads is = cut_off command old new before between left_first was mid so_far reads
   cut_off_by Text command old new before between left_first was mid so_far reads is = absurd (cc is)
@@ -303,8 +314,9 @@ module _ {C : Type 0} (machine : Machine C) (start : C) where
         put_same = t.put_same ∙ so_far.put_same;
         answers = so_far.answers;
         in_time = new_in_time command old reads.full reads.pieces (is_read_fault line) before between left_first before.left was mid so_far reads.takes;
-        left = subst (λ (l : List ℕ). LosesFront left_first between.left l) (ap (λ (l : List ℕ). bytes_of so_far.pieces ++ l) (sym (bytes_of-map (length mid.put) reads.pieces)) ∙ sym (bytes_of-append so_far.pieces new_pieces)) (LosesFront-twice left_first before.left between.left (bytes_of so_far.pieces) (concat reads.pieces) so_far.left reads.takes.left);
-        ahead = WhereTold-twice left_first before.left between.left (λ input rest. input_lines input ≡ so_far.lines ++ input_lines (remaining old rest)) (GivesNext (machine.longest command) old new line)
+        left = subst (λ (l : List ℕ). LosesPrefix left_first between.left l) (ap (λ (l : List ℕ). bytes_of so_far.pieces ++ l) (sym (bytes_of-map (length mid.put) reads.pieces)) ∙ sym (bytes_of-append so_far.pieces new_pieces))
+            (LosesPrefix-twice left_first before.left between.left (bytes_of so_far.pieces) (concat reads.pieces) so_far.left reads.takes.left);
+        ahead = WhereShown-twice left_first before.left between.left (λ input rest. input_lines input ≡ so_far.lines ++ input_lines (remaining old rest)) (GivesNext (machine.longest command) old new line)
             (λ input rest. (b : List ℕ) × (input_lines input ≡ so_far.lines ++ input_lines (remaining old b)) × GivesFirst (machine.longest command) old new line b rest) (λ x y z p q. (y, p, q.first)) so_far.ahead next;
         gives = gives_by line command old new before between left_first was mid so_far reads;
         cut_off = cut_off_by line command old new before between left_first was mid so_far reads;
@@ -326,17 +338,18 @@ module _ {C : Type 0} (machine : Machine C) (start : C) where
 
   -- a line was given, and its answer put: the run has come so far
   pub goes_on : (command next : C) (old new : Reader) (first now : Option (List ℕ)) (was is fin : Talk) (answer : List ℕ) → ReadSoFar command old new Text first now was is →
-      fin ≡ record is { put = is.put ++ answer } → machine.takes command new.number new.text answer (onward.Goes next) → new.number ≡ old.number + 1 → new.most ≡ old.most →
+      fin ≡ record is { put = is.put ++ answer } → machine.takes command new.number new.text answer (flow.Continue next) → new.number ≡ old.number + 1 → new.most ≡ old.most →
       SoFar next new first now was fin
   goes_on command next old new left_first left_now was is fin answer read wrote takes number most =
       let one = (read.gives refl).0 in
       let given = (read.gives refl).1 in
-      let takes_here : machine.takes command (old.number + 1) one.text answer (onward.Goes next) =
-      subst (λ (n : ℕ). machine.takes command n one.text answer (onward.Goes next)) number (subst (λ (t : List ℕ). machine.takes command new.number t answer (onward.Goes next)) given.text takes) in
-      let reply : Replies machine (here_at command old) (one ∷ []) answer (onward.Goes next) = replies_to_line machine (here_at command old) one [] answer (onward.Goes next) given.comes takes_here in
-      let room_is : room old - line_size one ≡ room new = omega (arith, given.place, most) in
+      let takes_here : machine.takes command (old.number + 1) one.text answer (flow.Continue next) =
+      subst (λ (n : ℕ). machine.takes command n one.text answer (flow.Continue next)) number (subst (λ (t : List ℕ). machine.takes command new.number t answer (flow.Continue next)) given.text takes) in
+      let reply : Replies machine (here_at command old) (one ∷ []) answer (flow.Continue next) = replies_to_line machine (here_at command old) one [] answer (flow.Continue next) given.comes takes_here in
+      let capacity_is : spare_capacity old - line_size one ≡ spare_capacity new = omega (arith, given.place, most) in
       let there_is : after_line (here_at command old) one next ≡ here_at next new =
-      ap (λ (n : ℕ). let h : Here C = record { state = next; number = n; room = room old - line_size one } in h) (sym number) ∙ ap (λ (r : ℕ). let h : Here C = record { state = next; number = new.number; room = r } in h) room_is in
+      ap (λ (n : ℕ). let h : Here C = record { state = next; number = n; spare_capacity = spare_capacity old - line_size one } in h) (sym number)
+      ∙ ap (λ (r : ℕ). let h : Here C = record { state = next; number = new.number; spare_capacity = r } in h) capacity_is in
       record {
         pieces = read.pieces;
         lines = read.lines ++ one ∷ [];
@@ -345,11 +358,13 @@ module _ {C : Type 0} (machine : Machine C) (start : C) where
         put = ap (λ (t : Talk). t.put) wrote ∙ (ap (λ (l : List ℕ). l ++ answer) read.put ∙ append_assoc was.put read.said answer);
         take_same = ap (λ (t : Talk). t.failed_take) wrote ∙ read.take_is;
         put_same = ap (λ (t : Talk). t.failed_put) wrote ∙ read.put_same;
-        answers = subst (λ (h : Here C). Answers machine (begins start) (read.lines ++ one ∷ []) (read.said ++ answer) h) there_is (Answers-more machine (begins start) read.lines read.said (here_at command old) one answer next read.answers reply);
+        answers = subst (λ (h : Here C). Answers machine (begins start) (read.lines ++ one ∷ []) (read.said ++ answer) h) there_is
+            (Answers-more machine (begins start) read.lines read.said (here_at command old) one answer next read.answers reply);
         in_time = in_time_on was.put read.lines read.said read.pieces one answer read.in_time;
         held = given.held;
         left = read.left;
-        ahead = WhereTold-so left_first left_now (λ input rest. (b : List ℕ) × (input_lines input ≡ read.lines ++ input_lines (remaining old b)) × GivesFirst (machine.longest command) old new Text b rest) (λ input rest. input_lines input ≡ (read.lines ++ one ∷ []) ++ input_lines (remaining new rest)) (λ input rest p.
+        ahead = WhereShown-so left_first left_now (λ input rest. (b : List ℕ) × (input_lines input ≡ read.lines ++ input_lines (remaining old b)) × GivesFirst (machine.longest command) old new Text b rest)
+            (λ input rest. input_lines input ≡ (read.lines ++ one ∷ []) ++ input_lines (remaining new rest)) (λ input rest p.
             let other = p.2.0 in
             let gave = p.2.1 in
             let same : other ≡ one = same_line other one (sym gave.text ∙ given.text) (let sizes : old.before + line_size other ≡ old.before + line_size one = sym gave.place ∙ given.place in omega (arith, sizes)) in

@@ -1,16 +1,16 @@
 -- A text of one of two kinds.
 use Rattle.std.specs.Prelude.{ℕ, List}
-use Rattle.command_engine.specs.Reading.{Reader}
+use Rattle.command_engine.specs.Readers.{Reader}
 use Rattle.command_engine.specs.declared.machines.Stop.{Stop}
-use Rattle.command_engine.specs.declared.reading.Step.{Step}
-use Rattle.command_engine.specs.declared.reading.Step.TheVariants.{Goes, Gives, Refused}
+use Rattle.command_engine.specs.declared.line_texts.Parse.{Parse}
+use Rattle.command_engine.specs.declared.line_texts.Parse.TheVariants.{Continue, Parsed, Refused}
 use Rattle.command_engine.specs.declared.alternatives.Either.{Either}
 use Rattle.command_engine.specs.declared.alternatives.Either.TheVariants.{Left, Right}
 
--- what a line brings of a text that is within another: that goes on where it goes on
-abbrev pub step_within : {S T V F : Type 0} → (S → T) → Step S V F → Step T V F
-step_within wrap (Goes state) = Goes (wrap state)
-step_within wrap (Gives value) = Gives value
+-- what a line brings of a text that is within another: the outer one goes on if the inner one does
+abbrev pub step_within : {S T V F : Type 0} → (S → T) → Parse S V F → Parse T V F
+step_within wrap (Continue state) = Continue (wrap state)
+step_within wrap (Parsed value) = Parsed value
 step_within wrap (Refused fault) = Refused fault
 
 module _ {A B V F : Type 0} (left : Reader A V F) (right : Reader B V F) where
@@ -18,7 +18,7 @@ module _ {A B V F : Type 0} (left : Reader A V F) (right : Reader B V F) where
   longest_of (Left text) = left.longest text
   longest_of (Right text) = right.longest text
 
-  abbrev pub reads_of : Either A B → ℕ → List ℕ → Step (Either A B) V F
+  abbrev pub reads_of : Either A B → ℕ → List ℕ → Parse (Either A B) V F
   reads_of (Left text) number line = step_within Left (left.reads text number line)
   reads_of (Right text) number line = step_within Right (right.reads text number line)
 

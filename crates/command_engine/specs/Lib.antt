@@ -9,12 +9,12 @@ pub mod Calls
 pub mod Serves
 pub mod Single
 pub mod Bytes
-pub mod Reading
+pub mod Readers
 pub mod Grammars
 pub mod Inputs
-pub mod Asked
+pub mod AnswersOnce
 pub mod Alternatives
 pub mod Pairs
 pub mod Phases
 pub mod Turns
-pub mod Testing
+pub mod TestedTexts

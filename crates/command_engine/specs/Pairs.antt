@@ -1,29 +1,29 @@
 -- A text, and after it another.
 use Rattle.std.specs.Prelude.{◌≡◌, ◌⊎◌, ℕ, ◌+◌, List, ◌++◌, length}
 use Rattle.command_engine.specs.Grammars.{Grammar}
-use Rattle.command_engine.specs.Reading.{Reader, Outcome, Given, Faulty, reading}
+use Rattle.command_engine.specs.Readers.{Reader, Outcome, Given, Faulty, reading}
 use Rattle.command_engine.specs.declared.machines.Stop.{Stop}
-use Rattle.command_engine.specs.declared.reading.Step.{Step}
-use Rattle.command_engine.specs.declared.reading.Step.TheVariants.{Goes, Gives, Refused}
+use Rattle.command_engine.specs.declared.line_texts.Parse.{Parse}
+use Rattle.command_engine.specs.declared.line_texts.Parse.TheVariants.{Continue, Parsed, Refused}
 use Rattle.command_engine.specs.declared.pairs.Then.{Then}
 use Rattle.command_engine.specs.declared.pairs.Then.TheVariants.{First, Second}
 
--- the two values, where the first is known
+-- the two values, if the first is known
 abbrev pub with_first : {V W F : Type 0} → V → Outcome W F → Outcome (V × W) F
-with_first value (Given other number room rest) = Given (value, other) number room rest
+with_first value (Given other number spare_capacity rest) = Given (value, other) number spare_capacity rest
 with_first value (Faulty fault) = Faulty fault
 
 module _ {A V B W F : Type 0} where
-  -- after a line of the first text, where the second begins so
-  abbrev pub first_step : B → Step A V F → Step (Then A V B) (V × W) F
-  first_step second (Goes text) = Goes (First text second)
-  first_step second (Gives value) = Goes (Second value second)
+  -- after a line of the first text, if the second begins so
+  abbrev pub first_step : B → Parse A V F → Parse (Then A V B) (V × W) F
+  first_step second (Continue text) = Continue (First text second)
+  first_step second (Parsed value) = Continue (Second value second)
   first_step second (Refused fault) = Refused fault
 
-  -- after a line of the second text, where the first said this
-  abbrev pub second_step : V → Step B W F → Step (Then A V B) (V × W) F
-  second_step value (Goes text) = Goes (Second value text)
-  second_step value (Gives other) = Gives (value, other)
+  -- after a line of the second text, if the first said this
+  abbrev pub second_step : V → Parse B W F → Parse (Then A V B) (V × W) F
+  second_step value (Continue text) = Continue (Second value text)
+  second_step value (Parsed other) = Parsed (value, other)
   second_step value (Refused fault) = Refused fault
 
   module _ (first : Reader A V F) (second : Reader B W F) where
@@ -31,7 +31,7 @@ module _ {A V B W F : Type 0} where
     longest_of (First text other) = first.longest text
     longest_of (Second value text) = second.longest text
 
-    abbrev pub reads_of : Then A V B → ℕ → List ℕ → Step (Then A V B) (V × W) F
+    abbrev pub reads_of : Then A V B → ℕ → List ℕ → Parse (Then A V B) (V × W) F
     reads_of (First text other) number line = first_step other (first.reads text number line)
     reads_of (Second value text) number line = second_step value (second.reads text number line)
 
@@ -45,8 +45,8 @@ module _ {A V B W F : Type 0} where
 
     -- the second text is read over the lines that are left after the first
     abbrev pub then_reading : B → Outcome V F → Outcome (V × W) F
-    then_reading other (Given value number room rest) =
-        with_first value (reading second (record { state = other; number = number; room = room }) rest)
+    then_reading other (Given value number spare_capacity rest) =
+        with_first value (reading second (record { state = other; number = number; spare_capacity = spare_capacity }) rest)
     then_reading other (Faulty fault) = Faulty fault
 
 module _ {V W F : Type 0} (first : Grammar V F) (second : ℕ → Grammar W F) (past : ℕ) where
@@ -57,15 +57,17 @@ module _ {V W F : Type 0} (first : Grammar V F) (second : ℕ → Grammar W F) (
     pub whole : lines ≡ text ++ rest
     pub declared : first.declares lines value rest
 
-  -- the grammar of what stands after the first text, which is told how many lines stand before it in the input
+  -- the grammar of what stands after the first text, by how many lines stand before it in the input
   abbrev pub second_after : {lines : List (List ℕ)} {value : V} → Divides lines value → Grammar W F
   second_after divided = second (past + length divided.text)
 
-  -- The grammar of a text and another after it: both declare their values, and the faults are those of the first, and, after it, of the
-  -- second.
+  -- The grammar of a text and another after it, which gets how many lines stand before its own: both declare their values, and the faults
+  -- are those of the first, and, after it, of the second.
   abbrev pub then_grammar : Grammar (V × W) F
   then_grammar = record {
     declares = λ lines value rest. (divided : Divides lines value.0) × (second_after divided).declares divided.rest value.1 rest;
-    longest = λ lines longest. first.longest lines longest ⊎ ((value : V) × (divided : Divides lines value) × (second_after divided).longest divided.rest longest);
-    refuses = λ lines next fault. first.refuses lines next fault ⊎ ((value : V) × (divided : Divides lines value) × (second_after divided).refuses divided.rest next fault);
+    longest = λ lines longest. first.longest lines longest ⊎ ((value : V) × (divided : Divides lines value)
+        × (second_after divided).longest divided.rest longest);
+    refuses = λ lines next fault. first.refuses lines next fault
+        ⊎ ((value : V) × (divided : Divides lines value) × (second_after divided).refuses divided.rest next fault);
   }

@@ -5,8 +5,8 @@ use Rattle.plan_port.specs.Lines.{Coming, Comes, TooLong, TooMuch, coming}
 use Rattle.command_engine.specs.Limits.{most_input}
 use Rattle.command_engine.specs.Machine.{Machine}
 use Rattle.command_engine.specs.declared.endings.End.{End}
-use Rattle.command_engine.specs.declared.machines.Onward.{Onward}
-use Rattle.command_engine.specs.declared.machines.Onward.TheVariants.{Goes, Ends}
+use Rattle.command_engine.specs.declared.machines.Flow.{Flow}
+use Rattle.command_engine.specs.declared.machines.Flow.TheVariants.{Continue, Finish}
 use Rattle.command_engine.specs.declared.machines.Stop.{Stop}
 use Rattle.command_engine.specs.declared.machines.Stop.TheVariants.{LineTooLong, InputTooMuch, InputEnded}
 
@@ -14,44 +14,44 @@ use Rattle.command_engine.specs.declared.machines.Stop.TheVariants.{LineTooLong,
 pub record Here (C : Type 0) : Type 0 where
   pub state : C
   pub number : ℕ
-  pub room : ℕ
+  pub spare_capacity : ℕ
 
 -- where a run begins
 abbrev pub begins : {C : Type 0} → C → Here C
-begins start = record { state = start; number = 0; room = most_input }
+begins start = record { state = start; number = 0; spare_capacity = most_input }
 
 -- where a run stands after a line, from which the command goes on by this state
 abbrev pub after_line : {C : Type 0} → Here C → InputLine → C → Here C
 after_line here line state =
-    record { state = state; number = here.number + 1; room = here.room - line_size line }
+    record { state = state; number = here.number + 1; spare_capacity = here.spare_capacity - line_size line }
 
 module _ {C : Type 0} (machine : Machine C) where
   -- what comes of a line here
   abbrev pub coming_at : Here C → InputLine → Coming
-  coming_at here line = coming (machine.longest here.state) here.room line
+  coming_at here line = coming (machine.longest here.state) here.spare_capacity line
 
-  -- the reply where no line comes
-  abbrev pub Stops : Here C → Stop → List ℕ → Onward C → Type 0
-  Stops here stop answer onward =
-      (end : End) × (onward ≡ Ends end) × machine.stops here.state (here.number + 1) stop answer end
+  -- the reply if no line comes
+  abbrev pub Stops : Here C → Stop → List ℕ → Flow C → Type 0
+  Stops here stop answer flow =
+      (end : End) × (flow ≡ Finish end) × machine.stops here.state (here.number + 1) stop answer end
 
   -- the reply to a line, by what comes of it
-  abbrev pub RepliesTo : Coming → Here C → List ℕ → List ℕ → Onward C → Type 0
-  RepliesTo Comes here text answer onward = machine.takes here.state (here.number + 1) text answer onward
-  RepliesTo TooLong here text answer onward = Stops here LineTooLong answer onward
-  RepliesTo TooMuch here text answer onward = Stops here InputTooMuch answer onward
+  abbrev pub RepliesTo : Coming → Here C → List ℕ → List ℕ → Flow C → Type 0
+  RepliesTo Comes here text answer flow = machine.takes here.state (here.number + 1) text answer flow
+  RepliesTo TooLong here text answer flow = Stops here LineTooLong answer flow
+  RepliesTo TooMuch here text answer flow = Stops here InputTooMuch answer flow
 
-  -- the reply to what comes first, where these lines are still to come: an answer, and how the run goes on
-  abbrev pub Replies : Here C → List InputLine → List ℕ → Onward C → Type 0
-  Replies here [] answer onward = Stops here InputEnded answer onward
-  Replies here (line ∷ rest) answer onward = RepliesTo (coming_at here line) here line.text answer onward
+  -- the reply to what comes first, if these lines are still to come: an answer, and how the run goes on
+  abbrev pub Replies : Here C → List InputLine → List ℕ → Flow C → Type 0
+  Replies here [] answer flow = Stops here InputEnded answer flow
+  Replies here (line ∷ rest) answer flow = RepliesTo (coming_at here line) here line.text answer flow
 
   -- these lines are answered by these bytes, one line after another, and then the run stands there
   abbrev pub Answers : Here C → List InputLine → List ℕ → Here C → Type 0
   Answers here [] said there = (said ≡ []) × (here ≡ there)
   Answers here (line ∷ lines) said there =
       (answer : List ℕ) × (more : List ℕ) × (state : C)
-      × Replies here (line ∷ lines) answer (Goes state)
+      × Replies here (line ∷ lines) answer (Continue state)
       × (said ≡ answer ++ more)
       × Answers (after_line here line state) lines more there
 
@@ -64,7 +64,7 @@ module _ {C : Type 0} (machine : Machine C) where
     pub last : List ℕ
     pub divided : lines ≡ first ++ rest
     pub answers : Answers here first said there
-    pub ends : Replies there rest last (Ends end)
+    pub ends : Replies there rest last (Finish end)
     pub all : put ≡ said ++ last
 
   -- a run of a command over an input puts these bytes and ends so

@@ -1,7 +1,7 @@
 -- A command that is run over a port: what is put, when, and how the run ends.
 use Rattle.std.specs.Prelude.{◌≡◌, ℕ, List, ◌++◌}
 use Rattle.std.specs.Option.{is_some}
-use Rattle.plan_port.specs.Talk.{Piece, Talk, Seen, WhereTold}
+use Rattle.plan_port.specs.Talk.{Piece, Talk, Seen, WhereShown}
 use Rattle.command_engine.specs.Machine.{Machine}
 use Rattle.command_engine.specs.Runs.{Runs}
 use Rattle.command_engine.specs.Breaks.{BreaksAtTake, BreaksAtPut, BreaksForMemory}
@@ -10,10 +10,10 @@ use Rattle.command_engine.specs.Calls.{Calls}
 use Rattle.command_engine.specs.declared.endings.Status.{Status}
 use Rattle.command_engine.specs.declared.endings.Status.TheVariants.{Ended, ReadFault, WriteFault, NoMemory}
 
--- where talk and bytes left are told afterwards, they were told before, and are so related
-abbrev pub WhereBothTold : (before after : Seen) → (Talk → Talk → List ℕ → List ℕ → Type 0) → Type 0
-WhereBothTold before after Related =
-    WhereTold before.talk after.talk (λ was is. WhereTold before.left after.left (λ input untaken. Related was is input untaken))
+-- if talk and bytes left are shown afterwards, they were shown before, and are so related
+abbrev pub WhereBothShown : (before after : Seen) → (Talk → Talk → List ℕ → List ℕ → Type 0) → Type 0
+WhereBothShown before after Related =
+    WhereShown before.talk after.talk (λ was is. WhereShown before.left after.left (λ input untaken. Related was is input untaken))
 
 module _ {C : Type 0} (machine : Machine C) (start : C) where
   -- the bytes put for an input, of which these pieces were taken and `untaken` was not, by the status
@@ -31,10 +31,10 @@ module _ {C : Type 0} (machine : Machine C) (start : C) where
     pub all : is.put ≡ was.put ++ put
     pub puts : PutsFor status input untaken put pieces
 
-  -- A run of the command over a port ended with this status. `calls`: what failed, and that no failed call was passed over.
-  -- `prompt`: each line was answered before more was taken. `puts`: what was put. `told`: the port tells what is left as before.
+  -- A run of the command over a port ended with this status. `calls`: what failed, and that no failed call was passed over. `prompt`: each line was answered
+  -- before more was taken. `puts`: what was put. `shown`: the port shows what is left as before.
   pub record Serves (status : Status) (before after : Seen) : Type 0 where
     pub calls : Calls status before after
-    pub prompt : WhereTold before.talk after.talk (λ was is. IsPrompt machine start was is)
-    pub puts : WhereBothTold before after (λ was is input untaken. Puts status was is input untaken)
-    pub told : is_some after.left ≡ is_some before.left
+    pub prompt : WhereShown before.talk after.talk (λ was is. IsPrompt machine start was is)
+    pub puts : WhereBothShown before after (λ was is input untaken. Puts status was is input untaken)
+    pub shown : is_some after.left ≡ is_some before.left

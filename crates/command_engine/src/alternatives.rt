@@ -3,11 +3,12 @@
 ghost use Rattle.std.specs.Prelude.{◌≡◌};
 ghost use Rattle.command_engine.specs.Alternatives.{either_reader};
 
+use crate::line_texts::{Parse, Text};
 use crate::machines::Stop;
-use crate::reading::{Step, Text};
 use std::alloc::{AllocError, Global};
 
-/// A text of one of two kinds, which say values of one type and have faults of one type: how far it was read.
+/// A text of one of two kinds, which say values of one type and have faults of one type: how far it
+/// was read. `AlternativeLemmas` shows that it is read by the grammar of its kind.
 #[derive(Drop)]
 pub enum Either<A, B> {
     /// It is of the first kind.
@@ -35,17 +36,17 @@ impl<A: Text, B: Text<Value = A::Value, Fault = A::Fault>> Text for Either<A, B>
         alloc: Global,
         number: u32,
         line: &[u8],
-    ) -> Result<Step<Either<A, B>, A::Value, A::Fault>, AllocError> {
+    ) -> Result<Parse<Either<A, B>, A::Value, A::Fault>, AllocError> {
         match self {
             Either::Left(text) => Ok(match text.read_line(alloc, number, line)? {
-                Step::Goes(text) => Step::Goes(Either::Left(text)),
-                Step::Gives(value) => Step::Gives(value),
-                Step::Refused(fault) => Step::Refused(fault),
+                Parse::Continue(text) => Parse::Continue(Either::Left(text)),
+                Parse::Parsed(value) => Parse::Parsed(value),
+                Parse::Refused(fault) => Parse::Refused(fault),
             }),
             Either::Right(text) => Ok(match text.read_line(alloc, number, line)? {
-                Step::Goes(text) => Step::Goes(Either::Right(text)),
-                Step::Gives(value) => Step::Gives(value),
-                Step::Refused(fault) => Step::Refused(fault),
+                Parse::Continue(text) => Parse::Continue(Either::Right(text)),
+                Parse::Parsed(value) => Parse::Parsed(value),
+                Parse::Refused(fault) => Parse::Refused(fault),
             }),
         }
     }

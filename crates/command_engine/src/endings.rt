@@ -47,7 +47,8 @@ pub enum Status {
 }
 
 impl Status {
-    /// The exit status of the program: that of the command's end, or 5, 6 or 8.
+    /// The exit status of the program: that of the command's end, or 5, 6 or 8. No run has the
+    /// status 2.
     pub fn number(self) -> u8
         ensures { result ≡ status_number self }
     {

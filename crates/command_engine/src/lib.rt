@@ -3,34 +3,35 @@
 
 mod alternatives;
 mod answers;
-mod asking;
 mod endings;
 mod laws;
 mod limits;
+mod line_texts;
 mod machines;
 mod pairs;
 mod phases;
-mod reading;
+mod questions;
 mod refusals;
-mod serving;
-mod testing;
+mod run_loop;
+mod tested_texts;
 mod words;
 
 pub use alternatives::Either;
 pub use answers::Answer;
-pub use asking::{Asked, Question, refuse};
 pub use endings::{End, Status};
 pub use laws::{
-    asked_answers, asked_is_single, asked_runs, asked_wants, broken_runs_are_fronts,
-    bytes_are_exact, pair_reads, single_runs, text_then_phase_is_single, text_then_phase_runs,
-    text_then_phase_wants,
+    law_answers_once_by_grammar, law_answers_once_is_single, law_answers_once_runs,
+    law_answers_once_wants, law_broken_runs_are_prefixes, law_bytes_are_exact, law_pair_reads,
+    law_single_runs, law_text_then_phase_is_single, law_text_then_phase_runs,
+    law_text_then_phase_wants,
 };
-pub use limits::{LEAST_ROOM, MOST_INPUT, limits_are_defined};
-pub use machines::{Command, Onward, Stop};
+pub use limits::{LEAST_CAPACITY, MOST_INPUT, law_limits_are_defined};
+pub use line_texts::{InGrammar, Parse, Text};
+pub use machines::{Command, Flow, Stop};
 pub use pairs::Then;
 pub use phases::{Begin, TextThenPhase};
-pub use reading::{InGrammar, Step, Text};
+pub use questions::{AnswersOnce, Question, refuse};
 pub use refusals::Refusal;
-pub use serving::serve;
-pub use testing::{Test, Tested, tested_texts_are_read};
+pub use run_loop::serve;
+pub use tested_texts::{Test, Tested, law_tested_texts_are_read};
 pub use words::Word;

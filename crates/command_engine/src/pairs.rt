@@ -3,11 +3,12 @@
 ghost use Rattle.command_engine.specs.Pairs.{then_reader, then_grammar};
 ghost use Rattle.command_engine.specs.declared.pairs.Then.TheVariants.{First};
 
+use crate::line_texts::{InGrammar, Parse, Text};
 use crate::machines::Stop;
-use crate::reading::{InGrammar, Step, Text};
 use std::alloc::{AllocError, Global};
 
-/// A text, and after it another: how far both were read. The reading begins with the beginnings of both.
+/// A text, and after it another: how far both were read. The first state is made of the first
+/// states of both. If both are read by grammars, it is read by that of both (`then_grammar`).
 #[derive(Drop)]
 pub enum Then<A, V, B> {
     /// The first is read, and so the second will begin.
@@ -35,17 +36,17 @@ impl<A: Text, B: Text<Fault = A::Fault>> Text for Then<A, A::Value, B> {
         alloc: Global,
         number: u32,
         line: &[u8],
-    ) -> Result<Step<Then<A, A::Value, B>, (A::Value, B::Value), A::Fault>, AllocError> {
+    ) -> Result<Parse<Then<A, A::Value, B>, (A::Value, B::Value), A::Fault>, AllocError> {
         match self {
             Then::First(text, second) => Ok(match text.read_line(alloc, number, line)? {
-                Step::Goes(text) => Step::Goes(Then::First(text, second)),
-                Step::Gives(value) => Step::Goes(Then::Second(value, second)),
-                Step::Refused(fault) => Step::Refused(fault),
+                Parse::Continue(text) => Parse::Continue(Then::First(text, second)),
+                Parse::Parsed(value) => Parse::Continue(Then::Second(value, second)),
+                Parse::Refused(fault) => Parse::Refused(fault),
             }),
             Then::Second(value, text) => Ok(match text.read_line(alloc, number, line)? {
-                Step::Goes(text) => Step::Goes(Then::Second(value, text)),
-                Step::Gives(other) => Step::Gives((value, other)),
-                Step::Refused(fault) => Step::Refused(fault),
+                Parse::Continue(text) => Parse::Continue(Then::Second(value, text)),
+                Parse::Parsed(other) => Parse::Parsed((value, other)),
+                Parse::Refused(fault) => Parse::Refused(fault),
             }),
         }
     }
@@ -59,7 +60,7 @@ impl<A: Text, B: Text<Fault = A::Fault>> Text for Then<A, A::Value, B> {
 }
 
 impl<A: InGrammar, B: InGrammar + Text<Fault = A::Fault>> InGrammar for Then<A, A::Value, B> {
-    ghost beginning = { First A.beginning B.beginning };
+    ghost initial_text = { First A.initial_text B.initial_text };
 
     ghost grammar = { λ past. then_grammar (A.grammar past) B.grammar past };
 

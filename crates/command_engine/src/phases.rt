@@ -1,16 +1,17 @@
-//! Commands that read a text and then answer line by line, by a phase that begins from what the text says.
+//! Commands that read a text and then answer line by line, by a phase that begins from what the
+//! text says.
 
 ghost use Rattle.std.specs.Prelude.{◌≡◌, ℕ, ◌≤◌, List, [], IfOk};
 ghost use Rattle.std.specs.Thread.{IsSync};
-ghost use Rattle.command_engine.specs.Machine.{HasRoom};
+ghost use Rattle.command_engine.specs.Machine.{HasCapacity};
 ghost use Rattle.command_engine.specs.Phases.{text_then_phase_machine, wrapped};
-ghost use Rattle.command_engine.specs.declared.machines.Onward.{Onward};
+ghost use Rattle.command_engine.specs.declared.machines.Flow.{Flow};
 
 use crate::answers::Answer;
-use crate::asking::refuse;
 use crate::endings::End;
-use crate::machines::{Command, Onward, Stop};
-use crate::reading::{Step, Text};
+use crate::line_texts::{Parse, Text};
+use crate::machines::{Command, Flow, Stop};
+use crate::questions::refuse;
 use crate::refusals::Refusal;
 use std::alloc::{AllocError, Global};
 use std::thread::Threads;
@@ -21,22 +22,23 @@ pub trait Begin<V>: Drop {
     type Phase: Command;
 
     /// To a value this is put, and so the run goes on: by a first state of the phase, or it ends.
-    ghost begins: { Self → V → List ℕ → Onward Self.Phase → Type 0 };
+    ghost begins: { Self → V → List ℕ → Flow Self.Phase → Type 0 };
 
-    /// Begins the phase: puts its first answer into the buffer, which is empty, and reserves the room there that its state
-    /// needs. `AllocError` comes only for want of memory.
+    /// Begins the phase: puts its first answer into the buffer, which is empty, and reserves the
+    /// capacity there that its state needs. `AllocError` comes only for want of memory.
     fn begin<R: Threads + Sync>(
         self,
         rt: &R,
         alloc: Global,
         answer: &mut Answer,
         value: V,
-    ) -> Result<Onward<Self::Phase>, AllocError>
+    ) -> Result<Flow<Self::Phase>, AllocError>
         // An implementation does not learn this from the bound `Sync`.
         requires shared { IsSync R.row }
-        requires fresh { answer.old.text ≡ [] }
-        ensures begins { IfOk result (λ onward. begins self value answer.new.text onward) }
-        ensures room { IfOk result (λ onward. HasRoom Self.Phase.machine onward answer.new.capacity) };
+        requires initial { answer.old.text ≡ [] }
+        ensures begins { IfOk result (λ flow. begins self value answer.new.text flow) }
+        ensures spare_capacity { IfOk result
+            (λ flow. HasCapacity Self.Phase.machine flow answer.new.capacity) };
 }
 
 /// A command that reads a text and then serves the phase that begins from what it says.
@@ -65,15 +67,15 @@ impl<T: Text, B: Begin<T::Value>> Command for TextThenPhase<B, T, B::Phase> {
         answer: &mut Answer,
         number: u32,
         line: &[u8],
-    ) -> Result<Onward<TextThenPhase<B, T, B::Phase>>, AllocError> {
+    ) -> Result<Flow<TextThenPhase<B, T, B::Phase>>, AllocError> {
         match self {
             TextThenPhase::Serving(state) => {
                 Ok(serving(state.take_line(rt, alloc, answer, number, line)?))
             }
             TextThenPhase::Reading(start, text) => match text.read_line(alloc, number, line)? {
-                Step::Goes(text) => Ok(Onward::Goes(TextThenPhase::Reading(start, text))),
-                Step::Gives(value) => Ok(serving(start.begin(rt, alloc, answer, value)?)),
-                Step::Refused(fault) => Ok(refuse(answer, fault)),
+                Parse::Continue(text) => Ok(Flow::Continue(TextThenPhase::Reading(start, text))),
+                Parse::Parsed(value) => Ok(serving(start.begin(rt, alloc, answer, value)?)),
+                Parse::Refused(fault) => Ok(refuse(answer, fault)),
             },
         }
     }
@@ -91,11 +93,11 @@ impl<T: Text, B: Begin<T::Value>> Command for TextThenPhase<B, T, B::Phase> {
 }
 
 /// A command goes on as its phase does.
-fn serving<B, T, P>(onward: Onward<P>) -> Onward<TextThenPhase<B, T, P>>
-    ensures { result ≡ wrapped TextThenPhase.Serving onward }
+fn serving<B, T, P>(flow: Flow<P>) -> Flow<TextThenPhase<B, T, P>>
+    ensures { result ≡ wrapped TextThenPhase.Serving flow }
 {
-    match onward {
-        Onward::Goes(state) => Onward::Goes(TextThenPhase::Serving(state)),
-        Onward::Ends(end) => Onward::Ends(end),
+    match flow {
+        Flow::Continue(state) => Flow::Continue(TextThenPhase::Serving(state)),
+        Flow::Finish(end) => Flow::Finish(end),
     }
 }

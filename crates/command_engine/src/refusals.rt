@@ -1,7 +1,7 @@
 //! Refusals that end a run.
 
 ghost use Rattle.std.specs.Prelude.{◌≡◌, ◌≤◌};
-ghost use Rattle.command_engine.specs.Reading.{Refusing};
+ghost use Rattle.command_engine.specs.Readers.{Refusing};
 
 use crate::answers::Answer;
 use crate::endings::End;

@@ -16,7 +16,7 @@ pub enum Word<'a> {
 
 impl Word<'_> {
     /// How many bytes the word has at most.
-    pub(crate) fn most_size(self) -> usize
+    pub(crate) fn most_bytes(self) -> usize
         ensures { result ≡ most_word self.entry }
     {
         match self {

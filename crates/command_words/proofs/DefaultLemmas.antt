@@ -12,9 +12,9 @@ use Rattle.std.proofs.lemmas.Slice.Eq.{bytes_eq-Decides}
 use Rattle.clap.specs.Walk.{Row, has_row, first_of, more_values, reading_by, with_default}
 use Rattle.clap.specs.declared.parser.matches.ValueSource.TheVariants.{DefaultValue}
 use Rattle.command_words.specs.Syntax.{Text, Syntax, is_in, is_sound}
-use Rattle.command_words.specs.Spelling.{Use, name_of, text_of}
+use Rattle.command_words.specs.SpelledWords.{Use, name_of, text_of}
 use Rattle.command_words.specs.Arguments.{is_given, text_given}
-use Rattle.command_words.specs.Reading.{complete_by, all_texts}
+use Rattle.command_words.specs.ArgumentReading.{complete_by, all_texts}
 use Rattle.command_words.specs.ClapRules.{is_true, arguments_found}
 use Rattle.command_words.proofs.RuleLemmas.{flag_arg, option_arg, operand_args, rules_for}
 use Rattle.command_words.proofs.SoundLemmas.{found_nowhere, found_there, bytes_same, option_apart, operand_not}
@@ -108,7 +108,7 @@ finished_is command rows =
     ∙ fold-append with_default flagged (map option_arg command.options) (operand_args 1 command.operands)
     ∙ operands_stay 1 command.operands _ ∙ options_stay command.options flagged
 
--- each use has a text exactly where its name is none of the flags
+-- each use has a text exactly if its name is none of the flags
 abbrev pub Fits : List Text → List Use → Type 0
 Fits flags [] = ⊤
 Fits flags (u ∷ uses) = (is_some (text_of u) ≡ not (is_in (name_of u) flags)) × Fits flags uses

@@ -11,8 +11,8 @@ use Rattle.clap.specs.Takes.{is_given as is_explicitly_given}
 use Rattle.clap.specs.Simple.{App, built, entered, matches_of, is_simple}
 use Rattle.clap.specs.Walk.{walk, Held, Row, Rule, idle, walked, settled, finished, has_row, nothing_held, with_default, is_early_multiple, first_of}
 use Rattle.command_words.specs.Syntax.{Text, Syntax, is_sound}
-use Rattle.command_words.specs.Spelling.{Use}
-use Rattle.command_words.specs.Reading.{uses_from, complete_by}
+use Rattle.command_words.specs.SpelledWords.{Use}
+use Rattle.command_words.specs.ArgumentReading.{uses_from, complete_by}
 use Rattle.command_words.specs.ClapRules.{flag_rule, option_rule, operand_rule, app_for, arguments_found}
 use Rattle.command_words.proofs.RuleLemmas.{flag_arg, option_arg, text_arg, operand_arg, operand_args, rules_for, raw_rules, with_rules, app_is, rules_are}
 use Rattle.command_words.proofs.LookupLemmas.{found_rules}
@@ -149,7 +149,7 @@ module _ (command : Syntax) (sound : is_sound command ≡ true) where
   abbrev fault_in : App → List Text → Kinds
   fault_in a words = Rattle.clap.specs.Faults.built_fault a nothing_held words
 
-  -- the faults of a parse are those of the walk, and then that of what waits at its end
+  -- the faults of a parse are those of the walk, and then that of an option without its value at its end
   fault_is : (words : List Text) → fault_of (app_for command) words ≡ or_else (walk_faults words) (end_faults words)
   unfolding walk_faults end_faults end_of
   fault_is words =
@@ -181,14 +181,14 @@ module _ (command : Syntax) (sound : is_sound command ≡ true) where
   some_fault words [] (k ∷ ks) first last not_so = rw (first, last) refl
   some_fault words (k ∷ ks) b first last not_so = rw first refl
 
-  -- the uses that are read, where a parse may succeed
+  -- the uses that are read, if a parse may succeed
   uses_are : (words : List Text) → Plain words → fault_of (app_for command) words ≡ []
       → Some (settled (rules_for command) (end_of words)).rows ≡ rows_in (uses_from command words [])
   uses_are words plain free =
       sym (both_free words (walk_faults words) (end_faults words) refl refl (sym (fault_is words) ∙ free))
       ∙ parse_says command (rules_for command) (found_rules command sound) words plain
 
-  -- where a parse may succeed, its matches say what the words do
+  -- if a parse may succeed, its matches say what the words do
   pub matches_say : (words : List Text) → Plain words → ((uses : List Use) → uses_from command words [] ≡ Some uses → Fits command.flags uses) → fault_of (app_for command) words ≡ []
       → arguments_found command (λ name. first_of name (matches_of (app_for command) words)) ≡ option_and_then (complete_by command) (uses_from command words [])
   matches_say words plain fits free = by (uses_from command words []) fits (uses_are words plain free)
@@ -201,7 +201,7 @@ module _ (command : Syntax) (sound : is_sound command ≡ true) where
           ap (λ rs. arguments_found command (λ name. first_of name rs)) (matches_are words ∙ ap (λ rs. fold with_default rs (rules_for command)) rows)
           ∙ rows_say command sound uses (f uses refl)
 
-  -- where it may be refused, the words say nothing
+  -- if it may be refused, the words say nothing
   pub refusals_say : (words : List Text) → Plain words → (fault_of (app_for command) words ≡ [] → ⊥) → uses_from command words [] ≡ None
   refusals_say words plain faulty = by (uses_from command words []) (sym (some_fault words (walk_faults words) (end_faults words) refl refl (λ is. faulty (fault_is words ∙ is)))
       ∙ parse_says command (rules_for command) (found_rules command sound) words plain)

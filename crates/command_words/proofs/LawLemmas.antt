@@ -1,5 +1,6 @@
--- Words are read exactly where they spell uses.
-use Rattle.std.proofs.Common.{codes, ◌≡◌, ℕ, suc, zero, ◌==◌, Bool, true, false, not, List, [], ◌∷◌, ◌++◌, map, length, take, Option, Some, None, inl, inr, refl, sym, ap, ap₂, ◌∙◌, arith, if◌then◌else◌, ◌||◌, true≢false, append-nil, append_assoc, cond, find}
+-- Words are read exactly if they spell uses.
+use Rattle.std.proofs.Common.{codes, ◌≡◌, ℕ, suc, zero, ◌==◌, Bool, true, false, not, List, [], ◌∷◌, ◌++◌, map, length, take, Option, Some, None, inl, inr, refl, sym, ap, ap₂, ◌∙◌, arith, if◌then◌else◌, ◌||◌, true≢false, append-nil}
+use Rattle.std.proofs.Common.{append_assoc, cond, find}
 use Rattle.std.specs.Prelude.{◌⊎◌, ◌↔◌, slice_get}
 use Rattle.std.specs.List.{list_any}
 use Rattle.std.specs.Option.{option_and_then, option_map}
@@ -13,10 +14,10 @@ use Rattle.clap.specs.Words.{fault_of}
 use Rattle.clap.proofs.CutLemmas.{Lacks, list_any-at}
 use Rattle.clap.proofs.LexerLemmas.{name_and_value-at, name_and_value-without}
 use Rattle.command_words.specs.ClapRules.{app_for}
-use Rattle.command_words.specs.Syntax.{Text, Syntax, is_in, asks, is_name, is_sound, dashed, are_apart}
-use Rattle.command_words.specs.Spelling.{Use, flag, valued, operand, name_of, text_of, is_plain, Spells, SpellsAll, IsOf, AreOf, operand_names}
+use Rattle.command_words.specs.Syntax.{Text, Syntax, is_in, asks, is_option_name, is_sound, dashed, are_apart}
+use Rattle.command_words.specs.SpelledWords.{Use, flag, valued, operand, name_of, text_of, is_plain, Spells, SpellsAll, IsOf, AreOf, operand_names}
 use Rattle.command_words.specs.Arguments.{IsMeaning, Arguments, is_given, operand_texts, text_given, arguments_by, Means}
-use Rattle.command_words.specs.Reading.{is_refused, count_operands, long_of, with_use, uses_from, with_next, after_word, after_value, all_texts, with_first, complete_by, arguments_of}
+use Rattle.command_words.specs.ArgumentReading.{is_refused, count_operands, long_of, with_use, uses_from, with_next, after_word, after_value, all_texts, with_first_text, complete_by, arguments_of}
 use Rattle.command_words.proofs.DefaultLemmas.{map_on}
 use Rattle.command_words.proofs.UseLemmas.{operands_append}
 use Rattle.command_words.proofs.SoundLemmas.{found_nowhere, apart_back, bytes_same, differs, flags_named, operand_not, operands_apart, or_later, option_apart, options_named, slice_in}
@@ -31,14 +32,14 @@ lacks_name (x ∷ xs) none =
     let first : (x == 61) ≡ false = each.0 in
     lacks_more 61 x xs (grind (arith, nat_tests)) (lacks_name xs each.1)
 
-no_equals : (x : ℕ) (xs : Text) → is_name (x ∷ xs) ≡ true → Lacks 61 (x ∷ xs)
+no_equals : (x : ℕ) (xs : Text) → is_option_name (x ∷ xs) ≡ true → Lacks 61 (x ∷ xs)
 no_equals x xs is = lacks_name (x ∷ xs) (not-true _ (and_parts (not (list_any (λ y. y == 61) (x ∷ xs))) (not (asks (dashed (x ∷ xs)))) is).0)
 
-pub name_long : (name : Text) → is_name name ≡ true → long_of (dashed name) ≡ Some (name, None)
+pub name_long : (name : Text) → is_option_name name ≡ true → long_of (dashed name) ≡ Some (name, None)
 name_long [] is = absurd (true≢false (sym is))
 name_long (x ∷ xs) is = ap Some (name_and_value-without (x ∷ xs) (no_equals x xs is))
 
-pub attached_long : (name text : Text) → is_name name ≡ true → long_of (dashed (name ++ 61 ∷ text)) ≡ Some (name, Some text)
+pub attached_long : (name text : Text) → is_option_name name ≡ true → long_of (dashed (name ++ 61 ∷ text)) ≡ Some (name, Some text)
 attached_long [] text is = absurd (true≢false (sym is))
 attached_long (x ∷ xs) text is = ap Some (name_and_value-at (x ∷ xs) text (no_equals x xs is))
 
@@ -55,16 +56,16 @@ plain_unrefused (b ∷ bs) is =
     let none : asks (b ∷ bs) ≡ false = asks_not is_plain (b ∷ bs) is refl refl in
     rw (not-true (b == 45) is, none) refl
 
-name_unrefused : (name : Text) → is_name name ≡ true → is_refused (dashed name) ≡ false
+name_unrefused : (name : Text) → is_option_name name ≡ true → is_refused (dashed name) ≡ false
 name_unrefused [] is = absurd (true≢false (sym is))
 name_unrefused (x ∷ xs) is = not-true (asks (dashed (x ∷ xs))) (and_parts (not (list_any (λ y. y == 61) (x ∷ xs))) _ is).1
 
-attached_unrefused : (name text : Text) → is_name name ≡ true → is_refused (dashed (name ++ 61 ∷ text)) ≡ false
+attached_unrefused : (name text : Text) → is_option_name name ≡ true → is_refused (dashed (name ++ 61 ∷ text)) ≡ false
 attached_unrefused [] text is = absurd (true≢false (sym is))
 attached_unrefused (x ∷ xs) text is = asks_not (list_any (λ y. y == 61)) (dashed ((x ∷ xs) ++ 61 ∷ text)) (list_any-at 61 (45 ∷ 45 ∷ x ∷ xs) text) refl refl
 
-fresh : (uses : List Use) (u : Use) (added : List Use) → are_apart (map name_of (uses ++ u ∷ added)) ≡ true → is_given (name_of u) uses ≡ false
-fresh uses u added apart =
+not_given : (uses : List Use) (u : Use) (added : List Use) → are_apart (map name_of (uses ++ u ∷ added)) ≡ true → is_given (name_of u) uses ≡ false
+not_given uses u added apart =
     given_in (name_of u) uses ∙ apart_back (map name_of uses) (name_of u ∷ map name_of added) (name_of u)
     (sym (ap are_apart (map-append name_of uses (u ∷ added))) ∙ apart) (or_left _ _ (bytes_same (name_of u)))
 
@@ -111,7 +112,7 @@ module _ (command : Syntax) (sound : is_sound command ≡ true) where
   says_read (u ∷ added) uses words spelled known apart all =
       let shift = append_assoc uses (u ∷ []) added in
       ap (λ ws. uses_from command ws uses) spelled.2
-      ∙ read_use uses u added spelled.0 spelled.1 spelled.3 known.0 (fresh uses u added apart) all
+      ∙ read_use uses u added spelled.0 spelled.1 spelled.3 known.0 (not_given uses u added apart) all
       (says_read added (uses ++ u ∷ []) spelled.1 spelled.4 known.1 (ap (λ l. are_apart (map name_of l)) shift ∙ apart) (ap operand_names shift ∙ all))
 
   use_unrefused : (u : Use) (first : List Text) → Spells u first → IsOf command u → list_any is_refused first ≡ false
@@ -150,7 +151,7 @@ operands_said (valued m t ∷ uses) apart =
     ap all_texts (map_on (λ n. text_given n (valued m t ∷ uses)) (λ n. text_given n uses) (operand_names uses) (λ n is. not_first (valued m t) uses n (not-true _ (and_parts _ _ apart).0) is)) ∙ operands_said uses (and_parts _ _ apart).1
 operands_said (operand m t ∷ uses) apart =
     let here : text_given m (operand m t ∷ uses) ≡ Some t = rw (bytes_same m) refl in
-    ap₂ with_first here (ap all_texts (map_on (λ n. text_given n (operand m t ∷ uses)) (λ n. text_given n uses) (operand_names uses) (λ n is. not_first (operand m t) uses n (not-true _ (and_parts _ _ apart).0) is))
+    ap₂ with_first_text here (ap all_texts (map_on (λ n. text_given n (operand m t ∷ uses)) (λ n. text_given n uses) (operand_names uses) (λ n is. not_first (operand m t) uses n (not-true _ (and_parts _ _ apart).0) is))
     ∙ operands_said uses (and_parts _ _ apart).1)
 
 complete_is : (command : Syntax) (uses : List Use) → are_apart (map name_of uses) ≡ true → operand_names uses ≡ command.operands → complete_by command uses ≡ Some (arguments_by command uses)
@@ -164,7 +165,7 @@ all_given : (f : Text → Option Text) (names texts : List Text) → all_texts (
 all_given f [] texts all n is none = true≢false (sym is)
 all_given f (m ∷ names) texts all n is none = by (bytes_eq m n) refl (f m) refl is all (all_given f names)
   where
-    by : (b : Bool) → bytes_eq m n ≡ b → (text : Option Text) → f m ≡ text → (b || is_in n names) ≡ true → with_first text (all_texts (map f names)) ≡ Some texts
+    by : (b : Bool) → bytes_eq m n ≡ b → (text : Option Text) → f m ≡ text → (b || is_in n names) ≡ true → with_first_text text (all_texts (map f names)) ≡ Some texts
         → ((texts : List Text) → all_texts (map f names) ≡ Some texts → (n : Text) → is_in n names ≡ true → f n ≡ None → ⊥) → ⊥
     by b e None t i a go = absurd cc
     by true e (Some text) t i a go =
@@ -233,7 +234,11 @@ module _ (command : Syntax) (sound : is_sound command ≡ true) where
       one : (uses : List Use) → SpellsAll uses words × Fine command uses → (texts : Option (List Text)) → all_texts (map (λ n. text_given n uses) command.operands) ≡ texts
           → complete_by command uses ≡ Some said → Means command words said
       one uses done None e i =
-          let bad : ◌≡◌ {A = Option Arguments} None (Some said) = sym (ap (λ t. option_map (λ ts. record { flags = map (λ name. is_given name uses) command.flags; options = map (λ name. text_given name uses) command.options; operands = ts }) t) e) ∙ i in
+          let bad : ◌≡◌ {A = Option Arguments} None (Some said) = sym (ap (λ t. option_map (λ ts. record {
+            flags = map (λ name. is_given name uses) command.flags;
+            options = map (λ name. text_given name uses) command.options;
+            operands = ts;
+          }) t) e) ∙ i in
           absurd cc
       one uses done (Some texts) e i =
           let all = complete uses texts done.1 e in
@@ -256,14 +261,14 @@ module _ (command : Syntax) (sound : is_sound command ≡ true) where
   pub read_exactly : (words : List Text) (said : Arguments) → arguments_of command words ≡ Some said ↔ Means command words said
   read_exactly words said = (means words said, meant words said)
 
-  -- what is read is what the words mean, where they mean anything
+  -- what is read is what the words mean, if they mean anything
   pub read_means : (words : List Text) (found : Option Arguments) → found ≡ arguments_of command words → IsMeaning command words found
   read_means words (Some arguments) is = means words arguments (sym is)
   read_means words None is = λ arguments m.
       let bad : ◌≡◌ {A = Option Arguments} None (Some arguments) = is ∙ meant words arguments m in
       absurd cc
 
-  -- `clap` accepts what is said, by its own promise
+  -- `clap` accepts what is said, by its own contract
   pub clap_accepts : (words : List Text) (said : Arguments) → Means command words said → fault_of (app_for command) words ≡ []
   clap_accepts words said m =
       let none = unrefused command sound m.0 words m.1.spelled m.1.known in

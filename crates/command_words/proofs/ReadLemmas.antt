@@ -13,9 +13,9 @@ use Rattle.clap.specs.declared.parser.matches.Found.{Found}
 use Rattle.clap.proofs.WalkLemmas.{first_value-rows}
 use Rattle.command_words.specs.ClapRules.{app_for, arguments_found}
 use Rattle.command_words.specs.Syntax.{Text, Syntax, is_in, asks, is_sound, dashed, are_apart}
-use Rattle.command_words.specs.Spelling.{Use, flag, valued, operand, name_of, is_plain, Spells, SpellsAll, IsOf, AreOf, operand_names}
+use Rattle.command_words.specs.SpelledWords.{Use, flag, valued, operand, name_of, is_plain, Spells, SpellsAll, IsOf, AreOf, operand_names}
 use Rattle.command_words.specs.Arguments.{is_given}
-use Rattle.command_words.specs.Reading.{is_stray, is_refused, count_operands, long_of, with_use, Reads, uses_from, with_next, after_plain, after_word, after_value, complete_by, arguments_of}
+use Rattle.command_words.specs.ArgumentReading.{is_stray, is_refused, count_operands, long_of, with_use, Reads, uses_from, with_next, after_plain, after_word, after_value, complete_by, arguments_of}
 use Rattle.command_words.proofs.RuleLemmas.{app_is}
 use Rattle.command_words.proofs.SoundLemmas.{option_apart, operand_not, slice_in}
 use Rattle.command_words.proofs.DefaultLemmas.{Fits}
@@ -51,9 +51,9 @@ module _ (command : Syntax) (sound : is_sound command ≡ true) where
 
   one_more : (uses : List Use) (u : Use) → Fine command uses → IsOf command u → is_given (name_of u) uses ≡ false
       → operand_names (uses ++ u ∷ []) ≡ take (count_operands (uses ++ u ∷ [])) command.operands → Fine command (uses ++ u ∷ [])
-  one_more uses u fine is fresh turn = record {
+  one_more uses u fine is not_given turn = record {
     known = of_more command uses u fine.known is;
-    once = ap are_apart (map-append name_of uses (u ∷ [])) ∙ apart_more (map name_of uses) (name_of u) fine.once (sym (given_in (name_of u) uses) ∙ fresh);
+    once = ap are_apart (map-append name_of uses (u ∷ [])) ∙ apart_more (map name_of uses) (name_of u) fine.once (sym (given_in (name_of u) uses) ∙ not_given);
     turn = turn;
   }
 
@@ -91,7 +91,7 @@ module _ (command : Syntax) (sound : is_sound command ≡ true) where
   abbrev Waited : List Text → Text → List Use → List Use → Type 0
   Waited words name uses more = (value : Text) × (rest : List Text) × (words ≡ value ∷ rest) × (is_plain value ≡ true) × ((first : List Text) → Spells (valued name value) first → Read (first ++ rest) uses more)
 
-  -- where an option waits, the next word is its value
+  -- after an option that still needs its value, the next word is the value
   abbrev GoesNext : List Text → Type 0
   GoesNext words = (name : Text) (uses more : List Use) → Fine command uses → is_in name command.options ≡ true → with_next command words name uses ≡ Some more → Waited words name uses more
 
@@ -104,7 +104,7 @@ module _ (command : Syntax) (sound : is_sound command ≡ true) where
     refl,
     plain_is word plain e,
     λ first spells. took (uses_from command words) first words uses more (valued name word) goes
-        (λ fresh. one_more uses (valued name word) fine known fresh (same_turn uses (valued name word) fine refl)) spells is,
+        (λ not_given. one_more uses (valued name word) fine known not_given (same_turn uses (valued name word) fine refl)) spells is,
   )
 
   -- a word is a name with its dashes, and a text if there is one
@@ -117,10 +117,10 @@ module _ (command : Syntax) (sound : is_sound command ≡ true) where
       → after_long command words name v uses f o ≡ Some more
       → Read (word ∷ words) uses more
   read_long words goes waits word name None uses more fine spelt true o is_f is_o is =
-      took (uses_from command words) (word ∷ []) words uses more (flag name) goes (λ fresh. one_more uses (flag name) fine is_f fresh (same_turn uses (flag name) fine refl)) (ap (λ w. w ∷ []) spelt) is
+      took (uses_from command words) (word ∷ []) words uses more (flag name) goes (λ not_given. one_more uses (flag name) fine is_f not_given (same_turn uses (flag name) fine refl)) (ap (λ w. w ∷ []) spelt) is
   read_long words goes waits word name (Some text) uses more fine spelt true o is_f is_o is = absurd cc
   read_long words goes waits word name (Some text) uses more fine spelt false true is_f is_o is =
-      took (uses_from command words) (word ∷ []) words uses more (valued name text) goes (λ fresh. one_more uses (valued name text) fine is_o fresh (same_turn uses (valued name text) fine refl))
+      took (uses_from command words) (word ∷ []) words uses more (valued name text) goes (λ not_given. one_more uses (valued name text) fine is_o not_given (same_turn uses (valued name text) fine refl))
       (inr (ap (λ w. w ∷ []) spelt)) is
   read_long words goes waits word name None uses more fine spelt false true is_f is_o is =
       let w = waits name uses more fine is_o is in
@@ -132,7 +132,7 @@ module _ (command : Syntax) (sound : is_sound command ≡ true) where
   read_plain words goes word uses more fine plain None at is = absurd cc
   read_plain words goes word uses more fine plain (Some name) at is =
       took (uses_from command words) (word ∷ []) words uses more (operand name word) goes
-      (λ fresh. one_more uses (operand name word) fine (slice_in command.operands (count_operands uses) name at) fresh (next_turn uses name word fine at)) (refl, plain) is
+      (λ not_given. one_more uses (operand name word) fine (slice_in command.operands (count_operands uses) name at) not_given (next_turn uses name word fine at)) (refl, plain) is
 
   read_word : (words : List Text) → Goes (uses_from command words) words → GoesNext words
       → (word : Text) (uses more : List Use) → Fine command uses → is_stray word ≡ false
@@ -171,7 +171,7 @@ module _ (command : Syntax) (sound : is_sound command ≡ true) where
   pub app_is_free : is_simple_and_free (app_for command) ≡ true
   app_is_free = ap is_simple_and_free (app_is command) ∙ simple_and_free command sound
 
-  -- where a parse may succeed, what is found in its matches is what the words say
+  -- if a parse may succeed, what is found in its matches is what the words say
   pub words_say : (words : List Text) (found : Found) → rows_of found ≡ matches_of (app_for command) words → list_any is_refused words ≡ false → fault_of (app_for command) words ≡ []
       → arguments_found command (first_value found) ≡ arguments_of command words
   words_say words found rows none free =
@@ -180,7 +180,7 @@ module _ (command : Syntax) (sound : is_sound command ≡ true) where
       ∙ matches_say command sound words (plain_words words none) (λ uses is. of_fit uses (read_all words none uses is).1.known) free
       ∙ ap (λ b. if b then None else option_and_then (complete_by command) (uses_from command words [])) (sym none)
 
-  -- where it may be refused, they say nothing
+  -- if it may be refused, they say nothing
   pub words_say_nothing : (words : List Text) → list_any is_refused words ≡ false → (fault_of (app_for command) words ≡ [] → ⊥) → arguments_of command words ≡ None
   words_say_nothing words none faulty =
       ap₂ (λ b u. if b then None else option_and_then (complete_by command) u) none (refusals_say command sound words (plain_words words none) faulty)

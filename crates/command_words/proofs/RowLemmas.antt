@@ -1,4 +1,4 @@
--- The rows of `clap` that stand for uses, and what one use more makes of them.
+-- The rows of `clap` for uses, and what one use more makes of them.
 use Rattle.std.proofs.Common.{◌≡◌, ℕ, Bool, true, false, List, [], ◌∷◌, ◌++◌, map, Option, Some, None, codes, refl, ap, ◌∙◌, if◌then◌else◌, ◌||◌, append-nil, true≢false}
 use Rattle.std.specs.Option.{unwrap_or}
 use Rattle.std.specs.Str.{bytes_eq}
@@ -6,7 +6,7 @@ use Rattle.clap.specs.Walk.{Row, at_row, without, has_row, used, more_values, re
 use Rattle.clap.specs.declared.builder.value_parser.Reading.{Reading}
 use Rattle.clap.specs.declared.parser.matches.ValueSource.TheVariants.{CommandLine}
 use Rattle.command_words.specs.Syntax.{Text}
-use Rattle.command_words.specs.Spelling.{Use, name_of, text_of}
+use Rattle.command_words.specs.SpelledWords.{Use, name_of, text_of}
 use Rattle.command_words.specs.Arguments.{is_given}
 use Rattle.command_words.proofs.RuleLemmas.{flag_arg, text_arg, option_arg}
 

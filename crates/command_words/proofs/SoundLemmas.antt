@@ -1,4 +1,4 @@
--- Names that are apart, and what holds of a sound syntax.
+-- Names that differ from each other, and the properties of a sound syntax.
 use Rattle.std.proofs.Common.{◌≡◌, ℕ, suc, zero, ◌<◌, Bool, true, false, List, [], ◌∷◌, ◌++◌, length, Option, Some, None, refl, sym, ap, ◌∙◌, ◌||◌, ◌&&◌, true≢false, cond, find, subst, ltb-true}
 use Rattle.std.specs.List.{list_all, list_any}
 use Rattle.std.specs.Option.{is_some}
@@ -7,12 +7,12 @@ use Rattle.std.specs.Str.{bytes_eq}
 use Rattle.std.proofs.lemmas.Bool.{and_parts, or_parts, or_right, not-true, false_from_ne_true}
 use Rattle.std.proofs.lemmas.List.Folds.{list_any-append}
 use Rattle.std.proofs.lemmas.Slice.Eq.{bytes_eq-Decides}
-use Rattle.command_words.specs.Syntax.{Syntax, Text, are_apart, is_in, is_name, is_sound}
+use Rattle.command_words.specs.Syntax.{Syntax, Text, are_apart, is_in, is_option_name, is_sound}
 
 pub bytes_same : (x : Text) → bytes_eq x x ≡ true
 bytes_same x = (bytes_eq-Decides x x).1 refl
 
--- texts that a test tells apart are not one
+-- texts that a test distinguishes are not one
 pub differs : (test : Text → Bool) (x y : Text) → test x ≡ true → test y ≡ false → bytes_eq y x ≡ false
 differs test x y is none = false_from_ne_true (bytes_eq y x) (λ e. true≢false (sym is ∙ sym (ap test ((bytes_eq-Decides y x).0 e)) ∙ none))
 
@@ -68,7 +68,7 @@ apart_after : (xs ys : List Text) → are_apart (xs ++ ys) ≡ true → are_apar
 apart_after [] ys apart = apart
 apart_after (x ∷ xs) ys apart = apart_after xs ys (apart_rest x (xs ++ ys) apart)
 
--- no name stands on both sides
+-- no name is on both sides
 pub apart_across : (xs ys : List Text) (name : Text) → are_apart (xs ++ ys) ≡ true → is_in name xs ≡ true → is_in name ys ≡ false
 apart_across [] ys name apart is = absurd (true≢false (sym is))
 apart_across (x ∷ xs) ys name apart is = by (bytes_eq x name) refl is (apart_across xs ys name (apart_rest x (xs ++ ys) apart))
@@ -88,20 +88,20 @@ module _ (command : Syntax) (sound : is_sound command ≡ true) where
   apart : are_apart (command.flags ++ (command.options ++ command.operands)) ≡ true
   apart = (and_parts _ _ sound).0
 
-  rest : (nat_lt (length command.operands) 10 && (list_all is_name command.flags && list_all is_name command.options)) ≡ true
+  rest : (nat_lt (length command.operands) 10 && (list_all is_option_name command.flags && list_all is_option_name command.options)) ≡ true
   rest = (and_parts _ _ sound).1
 
   pub few_operands : length command.operands < 10
   few_operands = ltb-true _ _ (and_parts _ _ rest).0
 
-  named : (list_all is_name command.flags ≡ true) × (list_all is_name command.options ≡ true)
+  named : (list_all is_option_name command.flags ≡ true) × (list_all is_option_name command.options ≡ true)
   named = and_parts _ _ (and_parts _ _ rest).1
 
-  pub flags_named : (name : Text) → is_in name command.flags ≡ true → is_name name ≡ true
-  flags_named name is = all_in is_name name command.flags named.0 is
+  pub flags_named : (name : Text) → is_in name command.flags ≡ true → is_option_name name ≡ true
+  flags_named name is = all_in is_option_name name command.flags named.0 is
 
-  pub options_named : (name : Text) → is_in name command.options ≡ true → is_name name ≡ true
-  options_named name is = all_in is_name name command.options named.1 is
+  pub options_named : (name : Text) → is_in name command.options ≡ true → is_option_name name ≡ true
+  options_named name is = all_in is_option_name name command.options named.1 is
 
   later_apart : are_apart (command.options ++ command.operands) ≡ true
   later_apart = apart_after command.flags (command.options ++ command.operands) apart

@@ -8,16 +8,16 @@ use Rattle.std.proofs.lemmas.Bool.Decides.{nat_tests}
 use Rattle.clap.proofs.CutLemmas.{Lacks}
 use Rattle.clap.proofs.LexerLemmas.{name_and_value-at, name_and_value-without}
 use Rattle.command_words.specs.Syntax.{Text, Syntax, is_in, dashed, are_apart}
-use Rattle.command_words.specs.Spelling.{Use, name_of, is_plain, IsOf, AreOf}
+use Rattle.command_words.specs.SpelledWords.{Use, name_of, is_plain, IsOf, AreOf}
 use Rattle.command_words.specs.Arguments.{is_given}
-use Rattle.command_words.specs.Reading.{is_stray, is_stray_rest, long_of, long_of_rest, strip_hyphen, name_and_value}
+use Rattle.command_words.specs.ArgumentReading.{is_stray, is_stray_rest, long_of, long_of_rest, strip_hyphen, name_and_value}
 use Rattle.command_words.proofs.SoundLemmas.{bytes_apart, in_append}
 
 abbrev with_value : Text → Option Text → Text
 with_value name None = name
 with_value name (Some value) = name ++ 61 ∷ value
 
--- a name, and a value after `=` where it has one
+-- a name, and a value after `=` if it has one
 abbrev pub spelled : Text × Option Text → Text
 spelled said = with_value said.0 said.1
 

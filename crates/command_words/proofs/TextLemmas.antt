@@ -3,15 +3,15 @@ use Rattle.std.proofs.Common.{◌≡◌, ℕ, suc, zero, ◌<◌, ◌≤◌, len
 use Rattle.std.specs.Borrow.{Bor}
 use Rattle.std.specs.List.{slice_index_or}
 use Rattle.command_words.specs.Syntax.{Text}
-use Rattle.command_words.specs.Reading.{all_texts, with_first}
+use Rattle.command_words.specs.ArgumentReading.{all_texts, with_first_text}
 
 all_some : (texts : List Text) → all_texts (map Some texts) ≡ Some texts
 all_some [] = refl
-all_some (text ∷ texts) = ap (with_first (Some text)) (all_some texts)
+all_some (text ∷ texts) = ap (with_first_text (Some text)) (all_some texts)
 
 some_none : (texts : List Text) (rest : List (Option Text)) → all_texts (map Some texts ++ None ∷ rest) ≡ None
 some_none [] rest = refl
-some_none (text ∷ texts) rest = ap (with_first (Some text)) (some_none texts rest)
+some_none (text ∷ texts) rest = ap (with_first_text (Some text)) (some_none texts rest)
 
 module _ (f : Text → Option Text) where
   abbrev found : List (Bor Text) → List (Option Text)

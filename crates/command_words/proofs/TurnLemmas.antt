@@ -10,7 +10,7 @@ use Rattle.clap.specs.Lexer.{short_of, short_of_rest}
 use Rattle.clap.specs.Simple.{Shape, built}
 use Rattle.clap.specs.Walk.{Held, Row, Rule, Waiting, Walk, idle, option, after_step, after_flag, long_met, long_or_other, walked, settled}
 use Rattle.command_words.specs.Syntax.{Text}
-use Rattle.command_words.specs.Reading.{long_of, is_stray, is_stray_rest}
+use Rattle.command_words.specs.ArgumentReading.{long_of, is_stray, is_stray_rest}
 use Rattle.command_words.proofs.RuleLemmas.{with_rules}
 
 -- none was refused
@@ -28,7 +28,7 @@ abbrev pub Long : Type 0
 Long = Option (Text × Option Text)
 
 module _ (rules : List Rule) where
-  -- the rows at the end of a walk, before the defaults, where nothing is refused
+  -- the rows at the end of a walk, before the defaults, if nothing is refused
   abbrev pub ended : Held → Option (List Row)
   ended h = if no_kinds (settle_fault rules false h) then Some (settled rules h).rows else None
 

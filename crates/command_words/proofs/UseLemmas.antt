@@ -2,8 +2,8 @@
 use Rattle.std.proofs.Common.{◌≡◌, suc, List, [], ◌∷◌, ◌++◌, length, refl, ap, ◌∙◌, arith, append-nil}
 use Rattle.std.proofs.lemmas.List.{length-append}
 use Rattle.command_words.specs.Syntax.{Text}
-use Rattle.command_words.specs.Spelling.{Use, flag, valued, operand, operand_names}
-use Rattle.command_words.specs.Reading.{count_operands}
+use Rattle.command_words.specs.SpelledWords.{Use, flag, valued, operand, operand_names}
+use Rattle.command_words.specs.ArgumentReading.{count_operands}
 
 pub operands_append : (uses more : List Use) → operand_names (uses ++ more) ≡ operand_names uses ++ operand_names more
 operands_append [] more = refl

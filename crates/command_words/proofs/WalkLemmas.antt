@@ -10,9 +10,9 @@ use Rattle.clap.specs.declared.error.kind.ErrorKind.TheVariants as kind
 use Rattle.clap.specs.Lexer.{short_of}
 use Rattle.clap.specs.Walk.{Held, Row, Rule, Waiting, idle, option, arg_by_id, arg_by_index, settled, reacted, is_pending, has_row, nothing_held}
 use Rattle.command_words.specs.Syntax.{Text, Syntax, is_in}
-use Rattle.command_words.specs.Spelling.{Use, flag, valued, operand, name_of, text_of}
+use Rattle.command_words.specs.SpelledWords.{Use, flag, valued, operand, name_of, text_of}
 use Rattle.command_words.specs.Arguments.{is_given}
-use Rattle.command_words.specs.Reading.{is_stray, long_of, with_use, count_operands, uses_from, with_next, after_flag, after_option, after_plain, after_value, after_word}
+use Rattle.command_words.specs.ArgumentReading.{is_stray, long_of, with_use, count_operands, uses_from, with_next, after_flag, after_option, after_plain, after_value, after_word}
 use Rattle.command_words.proofs.RuleLemmas.{flag_arg, text_arg, option_arg, operand_arg}
 use Rattle.command_words.proofs.LookupLemmas.{Finds}
 use Rattle.command_words.proofs.SoundLemmas.{bytes_same}
@@ -50,7 +50,7 @@ module _ (command : Syntax) (rules : List Rule) (finds : Finds command rules) wh
   abbrev Go : List Text → Type 0
   Go words = (h : Held) (uses : List Use) → Rests h uses → outcome rules words (at h idle (suc (count_operands uses))) ≡ rows_in (uses_from command words uses)
 
-  -- an option waits for its text
+  -- an option still needs its text
   record Waits (h : Held) (name : Text) (uses : List Use) : Type 0 where
     pending : h.pending ≡ Some (name, [])
     rows : h.rows ≡ map row_for uses
@@ -65,9 +65,9 @@ module _ (command : Syntax) (rules : List Rule) (finds : Finds command rules) wh
 
   go_on : (words : List Text) → Go words → (h : Held) (uses : List Use) (u : Use) (place : ℕ) → Rests h (uses ++ u ∷ []) → suc (count_operands (uses ++ u ∷ [])) ≡ place
       → is_given (name_of u) uses ≡ false → outcome rules words (at h idle place) ≡ uses_after words uses u
-  go_on words go h uses u place rests is fresh = rw fresh (ap (λ n. outcome rules words (at h idle n)) (sym is) ∙ go h (uses ++ u ∷ []) rests)
+  go_on words go h uses u place rests is not_given = rw not_given (ap (λ n. outcome rules words (at h idle n)) (sym is) ∙ go h (uses ++ u ∷ []) rests)
 
-  -- where what waits cannot be used, any option is refused
+  -- if the option that still needs its text cannot be used, any option is refused
   spoiled_arg : (words : List Text) (h : Held) (waiting : Waiting) (place : ℕ) (k : ErrorKind) (ks : Kinds) → settle_fault rules false h ≡ k ∷ ks
       → (name : Text) (f o : Bool) (v : Option Text) (word : Text)
       → turned_arg rules words h waiting place (rule_named name f o) v word ≡ None
@@ -77,7 +77,7 @@ module _ (command : Syntax) (rules : List Rule) (finds : Finds command rules) wh
   spoiled_arg words h waiting place k ks bad name false true (Some value) word = rw bad refl
   spoiled_arg words h waiting place k ks bad name false false v word = refl
 
-  -- a word that is no option goes to the next operand
+  -- a word that is no option is the next operand
   abbrev turned_plain : List Text → Held → ℕ → Text → Option (List Row)
   turned_plain words h place word = turned rules words h idle place None word
 
@@ -130,8 +130,8 @@ module _ (command : Syntax) (rules : List Rule) (finds : Finds command rules) wh
       let absent : has_row name (map row_for uses) ≡ false = rows_given name uses ∙ given in
       let same : (settled rules (reacted rules (flag_arg name) [] h)).rows ≡ map row_for (uses ++ flag name ∷ []) =
       rw rests.rows (used_flag name (map row_for uses) absent ∙ rows_more uses (flag name)) in
-      let fresh : has_row name (settled rules h).rows ≡ false = ap (has_row name) rests.rows ∙ absent in
-      rw (rests.fine, fresh) (go_on words go (reacted rules (flag_arg name) [] h) uses (flag name) (suc (count_operands uses)) (record { fine = refl; rows = same }) (ap suc (flag_count uses name)) given)
+      let not_given : has_row name (settled rules h).rows ≡ false = ap (has_row name) rests.rows ∙ absent in
+      rw (rests.fine, not_given) (go_on words go (reacted rules (flag_arg name) [] h) uses (flag name) (suc (count_operands uses)) (record { fine = refl; rows = same }) (ap suc (flag_count uses name)) given)
 
   attached_says : (words : List Text) → Go words → (h : Held) (uses : List Use) (name text word : Text) → Rests h uses → (given : Bool) → is_given name uses ≡ given
       → turned_arg rules words h idle (suc (count_operands uses)) (Some (option_arg name)) (Some text) word ≡ uses_after words uses (valued name text)
@@ -140,8 +140,8 @@ module _ (command : Syntax) (rules : List Rule) (finds : Finds command rules) wh
       let absent : has_row name (map row_for uses) ≡ false = rows_given name uses ∙ given in
       let same : (settled rules (reacted rules (option_arg name) (text ∷ []) h)).rows ≡ map row_for (uses ++ valued name text ∷ []) =
       rw rests.rows (used_text name (Some name) None text (map row_for uses) absent ∙ rows_more uses (valued name text)) in
-      let fresh : has_row name (settled rules h).rows ≡ false = ap (has_row name) rests.rows ∙ absent in
-      rw (rests.fine, fresh) (go_on words go (reacted rules (option_arg name) (text ∷ []) h) uses (valued name text) (suc (count_operands uses)) (record { fine = refl; rows = same }) (ap suc (valued_count uses name text)) given)
+      let not_given : has_row name (settled rules h).rows ≡ false = ap (has_row name) rests.rows ∙ absent in
+      rw (rests.fine, not_given) (go_on words go (reacted rules (option_arg name) (text ∷ []) h) uses (valued name text) (suc (count_operands uses)) (record { fine = refl; rows = same }) (ap suc (valued_count uses name text)) given)
 
   idle_arg : (words : List Text) → Go words → Next words → (h : Held) (uses : List Use) (name : Text) (v : Option Text) (word : Text) → Rests h uses
       → (f o : Bool) → is_in name command.flags ≡ f → is_in name command.options ≡ o

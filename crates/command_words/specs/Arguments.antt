@@ -4,7 +4,7 @@ use Rattle.std.specs.Option.{option_and_then, unwrap_or}
 use Rattle.std.specs.List.{list_any}
 use Rattle.std.specs.Str.{bytes_eq}
 use Rattle.command_words.specs.Syntax.{Syntax, Text}
-use Rattle.command_words.specs.Spelling.{Use, flag, valued, operand, name_of, text_of, Says}
+use Rattle.command_words.specs.SpelledWords.{Use, flag, valued, operand, name_of, text_of, Says}
 
 -- which flags are given, the value of each option that is given, and the texts of the operands, each in the command's order
 pub record Arguments : Type 0 where
@@ -16,7 +16,7 @@ pub record Arguments : Type 0 where
 abbrev pub flag_at : ℕ → Arguments → Bool
 flag_at place arguments = unwrap_or (slice_get arguments.flags place) false
 
--- the value of the option at this place, where it is given
+-- the value of the option at this place, if it is given
 abbrev pub option_at : ℕ → Arguments → Option Text
 option_at place arguments = option_and_then (λ text. text) (slice_get arguments.options place)
 
@@ -24,12 +24,15 @@ option_at place arguments = option_and_then (λ text. text) (slice_get arguments
 abbrev pub operand_at : ℕ → Arguments → Option Text
 operand_at place arguments = slice_get arguments.operands place
 
+-- a use of this name is given
 abbrev pub is_given : Text → List Use → Bool
 is_given name uses = list_any (λ u. bytes_eq (name_of u) name) uses
 
+-- the text of the use of a name, if one is given and has a text
 abbrev pub text_given : Text → List Use → Option Text
 text_given name uses = option_and_then text_of (find (λ u. bytes_eq (name_of u) name) uses)
 
+-- the texts of the operands that are given, in their order
 abbrev pub operand_texts : List Use → List Text
 operand_texts [] = []
 operand_texts (flag name ∷ uses) = operand_texts uses

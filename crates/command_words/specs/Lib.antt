@@ -1,5 +1,5 @@
 pub mod Arguments
 pub mod ClapRules
-pub mod Reading
-pub mod Spelling
+pub mod ArgumentReading
+pub mod SpelledWords
 pub mod Syntax

@@ -3,6 +3,7 @@ use Rattle.std.specs.Prelude.{ℕ, ◌==◌, ◌&&◌, Bool, true, false, not, L
 use Rattle.std.specs.List.{list_all, list_any}
 use Rattle.std.specs.Str.{bytes_eq}
 
+-- a word, by its bytes
 abbrev pub Text : Type 0
 Text = List ℕ
 
@@ -12,10 +13,11 @@ pub record Syntax : Type 0 where
   pub options : List Text
   pub operands : List Text
 
+-- a name is among these
 abbrev pub is_in : Text → List Text → Bool
 is_in name names = list_any (λ n. bytes_eq n name) names
 
--- no name stands twice
+-- no name comes twice
 abbrev pub are_apart : List Text → Bool
 are_apart [] = true
 are_apart (name ∷ names) = not (is_in name names) && are_apart names
@@ -28,12 +30,12 @@ dashed name = 45 ∷ 45 ∷ name
 abbrev pub asks : Text → Bool
 asks word = is_in word (codes "--help" ∷ codes "--version" ∷ [])
 
--- the name of a flag or of an option has a byte, has no `=` (61), and asks for nothing
-abbrev pub is_name : Text → Bool
-is_name [] = false
-is_name (b ∷ bs) = not (list_any (λ x. x == 61) (b ∷ bs)) && not (asks (dashed (b ∷ bs)))
+-- the name of a flag or of an option has a byte, has no `=` (61), and is not one of those words
+abbrev pub is_option_name : Text → Bool
+is_option_name [] = false
+is_option_name (b ∷ bs) = not (list_any (λ x. x == 61) (b ∷ bs)) && not (asks (dashed (b ∷ bs)))
 
--- A syntax is sound where no name stands twice, flags and options have names that can be spelled, and the operands are fewer than 10.
+-- A syntax is sound if no name comes twice, flags and options have names that can be spelled, and the operands are fewer than 10.
 abbrev pub is_sound : Syntax → Bool
 is_sound command = are_apart (command.flags ++ (command.options ++ command.operands))
-    && (nat_lt (length command.operands) 10 && (list_all is_name command.flags && list_all is_name command.options))
+    && (nat_lt (length command.operands) 10 && (list_all is_option_name command.flags && list_all is_option_name command.options))

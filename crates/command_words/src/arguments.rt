@@ -1,10 +1,12 @@
+//! What words give to a command.
+
 ghost use Rattle.std.specs.Prelude.{◌≡◌, map, option_map};
 ghost use Rattle.command_words.specs.Arguments.{flag_at, operand_at, option_at};
 
 use std::marker::Model;
 
-/// What words give to a command: which of its flags, the value of each of its options, and the texts of its operands. Each of them is asked
-/// for by its place in the `Syntax`, from 0.
+/// What words give to a command: which of its flags, the value of each of its options, and the
+/// texts of its operands. Each of them is found by its place in the `Syntax`, from 0.
 #[derive(Drop)]
 pub struct Arguments<'a> {
     pub(crate) flags: Vec<bool>,
@@ -18,7 +20,11 @@ impl<'a> Model for Arguments<'a> {
 
     ghost Value = { spec.Arguments };
 
-    ghost view = { λ arguments. record { flags = arguments.flags.items; options = map (λ text. option_map (λ t. t.now) text) arguments.options.items; operands = map (λ text. text.now) arguments.operands.items } };
+    ghost view = { λ arguments. record {
+      flags = arguments.flags.items;
+      options = map (λ text. option_map (λ t. t.now) text) arguments.options.items;
+      operands = map (λ text. text.now) arguments.operands.items;
+    } };
 }
 
 impl<'a> Arguments<'a> {
@@ -29,7 +35,7 @@ impl<'a> Arguments<'a> {
         self.flags.get(place).copied().unwrap_or(false)
     }
 
-    /// The value of the option at this place, where it is given. Beyond the last option none is.
+    /// The value of the option at this place, if it is given. Beyond the last option none is.
     pub fn option(&self, place: usize) -> Option<&'a str>
         ensures { option_map (λ text. text.now) result ≡ option_at place self.now }
     {

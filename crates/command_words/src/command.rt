@@ -2,7 +2,8 @@
 
 ghost use Rattle.std.specs.Prelude.{◌≡◌, map, false, IfOk};
 ghost use Rattle.clap.specs.Words.{app_of, rule_of};
-ghost use Rattle.command_words.specs.ClapRules.{app_for, app_with, bare_app, rule_for, with_named};
+ghost use Rattle.command_words.specs.ClapRules.{app_for, app_with, bare_app, clap_rule_for};
+ghost use Rattle.command_words.specs.ClapRules.{with_named};
 
 use crate::syntax::Syntax;
 use clap::{Arg, ArgAction, Command};
@@ -30,7 +31,8 @@ fn command_with<'a>(
     options: &[&'a str],
     operands: &[&'a str],
 ) -> Result<Command<'a>, AllocError>
-    ensures { IfOk result (λ command. app_of command ≡ app_with (map (λ name. name.now) flags.now) (map (λ name. name.now) options.now) (map (λ name. name.now) operands.now)) }
+    ensures { IfOk result (λ command. app_of command ≡ app_with (map (λ name. name.now) flags.now)
+        (map (λ name. name.now) options.now) (map (λ name. name.now) operands.now)) }
 {
     let command = with_names(bare(alloc), alloc, Kind::Flag, flags)?;
     let command = with_names(command, alloc, Kind::Option, options)?;
@@ -54,7 +56,8 @@ fn with_names<'a>(
     kind: Kind,
     names: &[&'a str],
 ) -> Result<Command<'a>, AllocError>
-    ensures { IfOk result (λ r. app_of r ≡ with_named kind (map (λ name. name.now) names.now) (app_of command.entry)) }
+    ensures { IfOk result (λ r. app_of r ≡ with_named kind (map (λ name. name.now) names.now)
+        (app_of command.entry)) }
 {
     let mut command = command;
     for name in names {
@@ -65,7 +68,7 @@ fn with_names<'a>(
 
 /// The argument of a name.
 fn argument<'a>(alloc: Global, kind: Kind, name: &'a str) -> Arg<'a>
-    ensures rule { rule_of result ≡ rule_for kind name.entry.now }
+    ensures rule { rule_of result ≡ clap_rule_for kind name.entry.now }
     ensures local { result.global ≡ false }
 {
     let argument = Arg::new(alloc, name);

@@ -1,7 +1,7 @@
 -- The words of a refusal are short.
 use Rattle.std.proofs.Common.{◌≡◌, ◌≤◌, ℕ, List, length, lit≤, sym, subst}
 use Rattle.net_model.specs.Formats.{format_word}
-use Rattle.net_model.specs.Building.{which_word, word_of}
+use Rattle.net_model.specs.BuiltNetwork.{which_word, build_fault_word}
 use Rattle.net_model.specs.declared.format.FormatKind.{FormatKind}
 use Rattle.net_model.specs.declared.format.FormatKind.TheVariants as kind
 use Rattle.net_model.specs.declared.fault.BuildFault.{BuildFault}
@@ -28,7 +28,7 @@ which_word_short which.Links = lit≤ tt
 which_word_short which.Bounds = lit≤ tt
 which_word_short which.Number = lit≤ tt
 
-part_word_short : (fault : BuildFault) → length (word_of fault) ≤ 18
+part_word_short : (fault : BuildFault) → length (build_fault_word fault) ≤ 18
 part_word_short (part.DuplicateName place) = lit≤ tt
 part_word_short (part.UnknownName place) = lit≤ tt
 part_word_short (part.TwoLinksOnPoint place) = lit≤ tt
@@ -51,7 +51,7 @@ format_words word k is = subst (λ (w : List ℕ). length w ≤ 18) (sym is) (fo
 pub which_words : (word : List ℕ) (w : Which) → word ≡ which_word w → length word ≤ 18
 which_words word w is = subst (λ (w : List ℕ). length w ≤ 18) (sym is) (which_word_short w)
 
-pub part_words : (word : List ℕ) (fault : BuildFault) → word ≡ word_of fault → length word ≤ 18
+pub part_words : (word : List ℕ) (fault : BuildFault) → word ≡ build_fault_word fault → length word ≤ 18
 part_words word fault is = subst (λ (w : List ℕ). length w ≤ 18) (sym is) (part_word_short fault)
 
 pub member_words : (word : List ℕ) (member : Member) → word ≡ member_word member → length word ≤ 7

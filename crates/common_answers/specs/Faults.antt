@@ -1,22 +1,23 @@
 -- The line that is printed for the first refusal of an input, and how it ends the run.
 use Rattle.std.specs.Prelude.{ℕ, List, [], ◌∷◌, codes}
 use Rattle.std.specs.Fmt.{decimal}
-use Rattle.texts.specs.Printing.{printed_line}
+use Rattle.texts.specs.PrintedLines.{printed_line}
 use Rattle.net_model.specs.Formats.{format_word}
-use Rattle.net_model.specs.Building.{word_of, which_word}
+use Rattle.net_model.specs.BuiltNetwork.{build_fault_word, which_word}
 use Rattle.net_model.specs.declared.format.FormatKind.{FormatKind}
 use Rattle.net_model.specs.declared.format.FormatKind.TheVariants.{NumberLimit}
 use Rattle.net_model.specs.declared.fault.BuildFault.TheVariants as part
 use Rattle.plan_json.specs.Words.{member_word}
 use Rattle.plan_json.specs.declared.fault.JsonFault.{JsonFault}
 use Rattle.plan_json.specs.declared.fault.JsonFault.TheVariants as json
-use Rattle.command_engine.specs.Reading.{Refusing}
+use Rattle.command_engine.specs.Readers.{Refusing}
 use Rattle.command_engine.specs.declared.endings.End.{End}
 use Rattle.command_engine.specs.declared.endings.End.TheVariants as end
 use Rattle.command_engine.specs.declared.machines.Stop.{Stop}
 use Rattle.command_engine.specs.declared.machines.Stop.TheVariants as stop
 use Rattle.common_answers.specs.declared.faults.Fault.{Fault}
-use Rattle.common_answers.specs.declared.faults.Fault.TheVariants.{Format, Part, Document, DocumentTooLong, LineTooLong, InputTooMuch, Cells, DuplicatePlan, TooManyPlans}
+use Rattle.common_answers.specs.declared.faults.Fault.TheVariants.{Format, Part, Document, DocumentTooLong, LineTooLong, InputTooMuch, Cells, DuplicatePlan}
+use Rattle.common_answers.specs.declared.faults.Fault.TheVariants.{TooManyPlans}
 
 -- what is printed of a fault of a document
 abbrev pub document_fault_words : JsonFault → List (List ℕ)
@@ -31,7 +32,7 @@ abbrev pub fault_words : Fault → List (List ℕ)
 fault_words (Format number NumberLimit) = codes "limit" ∷ decimal number ∷ codes "number" ∷ []
 fault_words (Format number kind) = codes "format" ∷ decimal number ∷ format_word kind ∷ []
 fault_words (Part number (part.Limit which place)) = codes "limit" ∷ decimal number ∷ which_word which ∷ []
-fault_words (Part number fault) = codes "plan" ∷ decimal number ∷ word_of fault ∷ []
+fault_words (Part number fault) = codes "plan" ∷ decimal number ∷ build_fault_word fault ∷ []
 fault_words (Document fault) = document_fault_words fault
 fault_words (DocumentTooLong number) = codes "limit" ∷ decimal number ∷ codes "json" ∷ []
 fault_words (LineTooLong number) = codes "limit" ∷ decimal number ∷ codes "line" ∷ []
@@ -66,7 +67,7 @@ fault_end (TooManyPlans number) = end.Limit
 abbrev pub refusing : Refusing Fault
 refusing = record { line = fault_line; end = fault_end }
 
--- the fault where no line comes, with the one of a text that ends too soon
+-- the fault if no line comes, with the one of a text that ends too soon
 abbrev pub stop_fault : ℕ → Stop → FormatKind → Fault
 stop_fault number stop.LineTooLong missing = LineTooLong number
 stop_fault number stop.InputTooMuch missing = InputTooMuch number

@@ -1,3 +1,3 @@
 pub mod Faults
-pub mod ToRead
+pub mod FormatRefusals
 pub mod VerdictLines

@@ -2,21 +2,25 @@
 
 ghost use Rattle.std.specs.Prelude.{◌≡◌, ◌≤◌, [], ◌∷◌, codes, length};
 ghost use Rattle.std.specs.Fmt.{decimal};
-ghost use Rattle.texts.specs.Printing.{printed_line};
+ghost use Rattle.texts.specs.PrintedLines.{printed_line};
 ghost use Rattle.command_engine.specs.declared.machines.Stop.{Stop};
 ghost use Rattle.plan_json.specs.Words.{member_word};
-ghost use Rattle.common_answers.specs.Faults.{document_fault_end, document_fault_words, refusing, stop_fault};
+ghost use Rattle.common_answers.specs.Faults.{document_fault_end, document_fault_words, refusing};
+ghost use Rattle.common_answers.specs.Faults.{stop_fault};
 
 use command_engine::{Answer, End, Refusal, Stop, Word};
 use net_model::{BuildFault, FormatKind};
 use plan_json::{JsonFault, Member};
 
-/// The first refusal of an input, with the number of its line, or, of a document, with its member and place.
+/// The first refusal of an input, with the number of its line, or, of a document, with its member
+/// and place. A line of its own is put for it, and it ends the run with 4 if a limit was passed,
+/// else with 3.
 #[derive(Clone, Copy, Debug, PartialEq, Eq)]
 pub enum Fault {
     /// The line is no line of its text.
     Format(u32, FormatKind),
-    /// The part of the plan that the line declares is refused; of a document the number is that of the part.
+    /// The part of the plan that the line declares is refused; of a document the number is that of
+    /// the part.
     Part(u32, BuildFault),
     /// The document of the plan has a fault.
     Document(JsonFault),
@@ -24,9 +28,11 @@ pub enum Fault {
     DocumentTooLong(u32),
     /// The line is longer than it may be.
     LineTooLong(u32),
-    /// The input has more bytes than it may have, and the byte beyond belongs to the line or is its end.
+    /// The input has more bytes than it may have, and the byte beyond belongs to the line or is its
+    /// end.
     InputTooMuch(u32),
-    /// The network of the plan that ends in the line has more keys than shared cells hold; of a document the number is 0.
+    /// The network of the plan that ends in the line has more keys than shared cells hold; of a
+    /// document the number is 0.
     Cells(u32),
     /// The line names a plan by a name that stands before.
     DuplicatePlan(u32),
@@ -74,11 +80,13 @@ impl Refusal for Fault {
     }
 }
 
-/// Puts the refusal of a line: the class of the fault, the number, and the word that says what is wrong.
+/// Puts the refusal of a line: the class of the fault, the number, and the word that says what is
+/// wrong.
 fn refuse_line(answer: &mut Answer, class: &'static str, number: u32, word: &'static str)
     requires class { length class.now ≤ 6 }
     requires word { length word.now ≤ 18 }
-    ensures line { answer.new.text ≡ printed_line (codes "error" ∷ class.now ∷ decimal number ∷ word.now ∷ []) }
+    ensures line { answer.new.text ≡ printed_line
+        (codes "error" ∷ class.now ∷ decimal number ∷ word.now ∷ []) }
     ensures capacity { answer.old.capacity ≤ answer.new.capacity }
 {
     answer.refuse(&[
@@ -113,7 +121,8 @@ fn refuse_text(answer: &mut Answer, word: &'static str)
 
 fn refuse_item(answer: &mut Answer, word: &'static str, member: Member, place: u32)
     requires { length word.now ≤ 18 }
-    ensures line { answer.new.text ≡ printed_line (codes "error" ∷ codes "json" ∷ word.now ∷ member_word member ∷ decimal place ∷ []) }
+    ensures line { answer.new.text ≡ printed_line
+        (codes "error" ∷ codes "json" ∷ word.now ∷ member_word member ∷ decimal place ∷ []) }
     ensures capacity { answer.old.capacity ≤ answer.new.capacity }
 {
     answer.refuse(&[
@@ -126,7 +135,8 @@ fn refuse_item(answer: &mut Answer, word: &'static str, member: Member, place: u
 }
 
 fn refuse_number(answer: &mut Answer, member: Member, place: u32)
-    ensures line { answer.new.text ≡ printed_line (codes "error" ∷ codes "limit" ∷ member_word member ∷ decimal place ∷ codes "number" ∷ []) }
+    ensures line { answer.new.text ≡ printed_line
+        (codes "error" ∷ codes "limit" ∷ member_word member ∷ decimal place ∷ codes "number" ∷ []) }
     ensures capacity { answer.old.capacity ≤ answer.new.capacity }
 {
     answer.refuse(&[
@@ -138,7 +148,8 @@ fn refuse_number(answer: &mut Answer, member: Member, place: u32)
     ]);
 }
 
-/// A number beyond its limit ends the run as a limit that was passed, and every other fault of a document as a fault.
+/// A number beyond its limit ends the run as a limit that was passed, and every other fault of a
+/// document as a fault.
 fn document_fault_end(fault: JsonFault) -> End
     ensures { result ≡ document_fault_end fault }
 {
@@ -148,7 +159,7 @@ fn document_fault_end(fault: JsonFault) -> End
     }
 }
 
-/// The fault where no line comes; where the input ends within a text, it is the fault of that text.
+/// The fault if no line comes; if the input ends within a text, it is the fault of that text.
 pub fn stop_fault(number: u32, stop: Stop, missing: FormatKind) -> Fault
     ensures { result ≡ stop_fault number stop missing }
 {

@@ -1,17 +1,20 @@
-//! What is put of the verdict of a network: a line, and where it is wanted a certificate after that.
+//! What is put of the verdict of a network: a line, and a certificate after it if one is wanted.
 
 ghost use Rattle.std.specs.Prelude.{◌≡◌, [], IfOk, OnOk, if◌then◌else◌};
 ghost use Rattle.cert_format.specs.CertificateWords.{HasWeights};
-ghost use Rattle.common_answers.specs.VerdictLines.{controllable_line, refuted_line, PutsControllable, PutsProved, PutsRefuted};
+ghost use Rattle.common_answers.specs.VerdictLines.{controllable_line, refuted_line};
+ghost use Rattle.common_answers.specs.VerdictLines.{PutsControllable, PutsProved, PutsRefuted};
 
 use cert_format::{Certificate, print_certificate};
 use command_engine::{Answer, End, Word};
 use std::alloc::{AllocError, Global};
 
-/// Puts whether a network is controllable into the buffer, which is empty.
+/// Puts whether a network is controllable into the buffer, which is empty. `AllocError` comes only
+/// for want of memory; a part of the line may then have been put.
 pub fn push_verdict(answer: &mut Answer, controllable: bool) -> Result<(), AllocError>
     requires { answer.old.text ≡ [] }
-    ensures { OnOk result (answer.new.text ≡ (if controllable then controllable_line else refuted_line)) }
+    ensures { OnOk result (answer.new.text ≡ (if controllable then controllable_line
+        else refuted_line)) }
 {
     if controllable {
         answer.push_line(&[Word::Text("controllable")])
@@ -20,7 +23,8 @@ pub fn push_verdict(answer: &mut Answer, controllable: bool) -> Result<(), Alloc
     }
 }
 
-/// Puts that a network is controllable into the buffer, which is empty.
+/// Puts that a network is controllable into the buffer, which is empty. `AllocError` comes only for
+/// want of memory; a part may then have been put.
 pub fn put_controllable(answer: &mut Answer) -> Result<End, AllocError>
     requires { answer.old.text ≡ [] }
     ensures { IfOk result (λ end. PutsControllable answer.new.text end) }
@@ -30,6 +34,7 @@ pub fn put_controllable(answer: &mut Answer) -> Result<End, AllocError>
 }
 
 /// Puts that a network is controllable, and the certificate of it, into the buffer, which is empty.
+/// `AllocError` comes only for want of memory; a part may then have been put.
 pub fn put_proved(
     alloc: Global,
     answer: &mut Answer,
@@ -45,7 +50,8 @@ pub fn put_proved(
     Ok(End::Done)
 }
 
-/// Puts that a network is not controllable, and the certificate of it, into the buffer, which is empty.
+/// Puts that a network is not controllable, and the certificate of it, into the buffer, which is
+/// empty. `AllocError` comes only for want of memory; a part may then have been put.
 pub fn put_refuted(
     alloc: Global,
     answer: &mut Answer,

@@ -2,5 +2,5 @@ pub mod PointLemmas
 pub mod GrammarLemmas
 pub mod OneAnswerLemmas
 pub mod SaidLemmas
-pub mod AskingLemmas
+pub mod DeadlineAnswerLemmas
 pub mod DeadlineWordLemmas

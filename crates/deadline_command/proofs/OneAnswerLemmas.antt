@@ -7,9 +7,9 @@ use Rattle.net_model.specs.Network.{Plan, bound_named}
 use Rattle.net_model.specs.ShownForm.{shown_form}
 use Rattle.net_model.specs.declared.ids.PointId.{PointId}
 use Rattle.cert_format.specs.declared.certificate.Certificate.{Certificate}
-use Rattle.table_proofs.specs.Certified.{Certifies}
-use Rattle.table_proofs.proofs.LawProofs.{certificates_are_one}
-use Rattle.deadline_search.specs.Answers.{IsAnswerOf, IsNever, IsLeast, IsFloor}
+use Rattle.closure_certificates.specs.Certified.{Certifies}
+use Rattle.closure_certificates.proofs.LawProofs.{law_certificates_are_one}
+use Rattle.deadline_search.specs.Answers.{IsAnswerOf, IsNever, IsLeastDeadline, IsFloor}
 use Rattle.deadline_search.specs.Deadlines.{IsTightest, highest, lowest}
 use Rattle.deadline_search.specs.Goals.{IsGoalName, goal_name, with_goal}
 use Rattle.deadline_search.specs.declared.answer.Deadline.{Deadline}
@@ -49,14 +49,15 @@ module _ (net : Plan) where
     IsNeverOf cert name = IsNever net (record { name = name; from = from; to = to }) cert
 
     abbrev IsLeastOf : ℤ → (proof refutation : Certificate) → List ℕ → Type 0
-    IsLeastOf most proof refutation name = IsLeast net (record { name = name; from = from; to = to }) most proof refutation
+    IsLeastOf most proof refutation name = IsLeastDeadline net (record { name = name; from = from; to = to }) most proof refutation
 
     abbrev IsFloorOf : Certificate → List ℕ → Type 0
     IsFloorOf cert name = IsFloor net (record { name = name; from = from; to = to }) cert
 
     -- the certificate of the network with the bound at a number
-    certificate_one : (name : List ℕ) (most : ℤ) (cert other : Certificate) → Certifies (shown_form (with_goal net (record { name = name; from = from; to = to }) most)) cert → Certifies (shown_form (with_goal net (record { name = name; from = from; to = to }) most)) other → cert ≡ other
-    certificate_one name most cert other = certificates_are_one (shown_form (with_goal net (record { name = name; from = from; to = to }) most)) cert other
+    certificate_one : (name : List ℕ) (most : ℤ) (cert other : Certificate) → Certifies (shown_form (with_goal net (record { name = name; from = from; to = to }) most)) cert
+        → Certifies (shown_form (with_goal net (record { name = name; from = from; to = to }) most)) other → cert ≡ other
+    certificate_one name most cert other = law_certificates_are_one (shown_form (with_goal net (record { name = name; from = from; to = to }) most)) cert other
 
     -- ---- two answers of one goal
     tightest_one : (name : List ℕ) (most other : ℤ) → IsTightest net (record { name = name; from = from; to = to }) most → IsTightest net (record { name = name; from = from; to = to }) other → most ≡ other
@@ -71,7 +72,8 @@ module _ (net : Plan) where
     floor_one : (name : List ℕ) (cert other : Certificate) → IsFloorOf cert name → IsFloorOf other name → cert ≡ other
     floor_one name cert other one two = certificate_one name lowest cert other (inl one.proved) (inl two.proved)
 
-    least_one : (name : List ℕ) (most other : ℤ) (proof refutation proof' refutation' : Certificate) → IsLeastOf most proof refutation name → IsLeastOf other proof' refutation' name → Least name most proof refutation ≡ Least name other proof' refutation'
+    least_one : (name : List ℕ) (most other : ℤ) (proof refutation proof' refutation' : Certificate) → IsLeastOf most proof refutation name → IsLeastOf other proof' refutation' name
+        → Least name most proof refutation ≡ Least name other proof' refutation'
     least_one name most other proof refutation proof' refutation' one two =
         let same = tightest_one name most other one.tightest two.tightest in
         let there = subst (λ (m : ℤ). IsLeastOf m proof' refutation' name) (sym same) two in
@@ -81,7 +83,7 @@ module _ (net : Plan) where
 
     -- a network has one answer at most
     pub answer_one : (deadline other : Deadline) → IsAnswerOf net from to deadline → IsAnswerOf net from to other → deadline ≡ other
-    answer_one (NotControllable cert) (NotControllable cert') one two = ap NotControllable (certificates_are_one (shown_form net) cert cert' (inr one.1) (inr two.1))
+    answer_one (NotControllable cert) (NotControllable cert') one two = ap NotControllable (law_certificates_are_one (shown_form net) cert cert' (inr one.1) (inr two.1))
     answer_one (NotControllable cert) (Never name' cert') one two = absurd (one.0 two.controllable)
     answer_one (NotControllable cert) (Least name' most' proof' cert') one two = absurd (one.0 two.controllable)
     answer_one (NotControllable cert) (Floor name' proof') one two = absurd (one.0 two.controllable)

@@ -9,7 +9,7 @@ use Rattle.net_model.specs.Limits.{most_number}
 use Rattle.net_model.specs.Numbers.{integer_of, natural_of}
 use Rattle.net_model.specs.declared.format.FormatKind.{FormatKind}
 use Rattle.net_model.specs.declared.format.FormatKind.TheVariants.{BadNumber}
-use Rattle.net_model.proofs.SpellingLemmas.{integer_spelled, printable_integer}
+use Rattle.net_model.proofs.DecimalSpellingLemmas.{integer_spelled, printable_integer}
 use Rattle.strategy_model.specs.Control.{IsControllable}
 use Rattle.cert_format.specs.CertificateWords.{printed_certificate}
 use Rattle.cert_format.specs.declared.certificate.Certificate.{Certificate}
@@ -23,9 +23,9 @@ use Rattle.deadline_search.specs.Answers.{IsAnswerOf}
 use Rattle.deadline_search.specs.Deadlines.{highest, lowest}
 use Rattle.deadline_search.specs.declared.answer.Deadline.{Deadline}
 use Rattle.deadline_search.specs.declared.answer.Deadline.TheVariants.{NotControllable, Never, Least, Floor}
-use Rattle.deadline_command.specs.Asking.{at_lowest, deadline_answers, deadline_line, deadline_start, deadline_text, kept_text, no_deadline}
+use Rattle.deadline_command.specs.DeadlineAnswers.{at_lowest, deadline_answers, deadline_line, deadline_start, deadline_text, kept_text, no_deadline}
 use Rattle.deadline_command.specs.DeadlinePromise.{HasNoDeadline, IsPromised}
-use Rattle.deadline_command.specs.Points.{PlanPoints, goal_number, no_room, points_in, points_reader}
+use Rattle.deadline_command.specs.Points.{PlanPoints, goal_number, bounds_limit_fault, points_in, points_reader}
 use Rattle.deadline_command.specs.declared.points.DeadlineWords.{DeadlineWords}
 use Rattle.deadline_command.proofs.GrammarLemmas.{points_by_grammar}
 
@@ -42,18 +42,18 @@ no_refusal_is_refuted fault more same = let byte : ◌≡◌ {A = ℕ} 101 110 =
 refuted_is_none : (more others : List ℕ) → refuted_line ++ more ≡ controllable_line ++ others → ⊥
 refuted_is_none more others same = let byte : ◌≡◌ {A = ℕ} 110 99 = ap first_byte same in omega arith
 
--- what is put of a network begins with that line exactly where it is controllable
-yes : (words : DeadlineWords) (asked : PlanPoints) (deadline : Deadline) → IsAnswerOf asked.net asked.from asked.to deadline → (more : List ℕ) → deadline_text words deadline ≡ controllable_line ++ more → IsControllable asked.net
-yes words asked (NotControllable cert) is more same = absurd (refuted_is_none (printed_certificate cert) more same)
-yes words asked (Never name cert) is more same = is.controllable
-yes words asked (Least name most proof cert) is more same = is.controllable
-yes words asked (Floor name proof) is more same = is.controllable
+-- what is put of a network begins with that line exactly if it is controllable
+yes : (words : DeadlineWords) (query : PlanPoints) (deadline : Deadline) → IsAnswerOf query.net query.from query.to deadline → (more : List ℕ) → deadline_text words deadline ≡ controllable_line ++ more → IsControllable query.net
+yes words query (NotControllable cert) is more same = absurd (refuted_is_none (printed_certificate cert) more same)
+yes words query (Never name cert) is more same = is.controllable
+yes words query (Least name most proof cert) is more same = is.controllable
+yes words query (Floor name proof) is more same = is.controllable
 
-no : (words : DeadlineWords) (asked : PlanPoints) (deadline : Deadline) → IsAnswerOf asked.net asked.from asked.to deadline → (more : List ℕ) → deadline_text words deadline ≡ refuted_line ++ more → IsControllable asked.net → ⊥
-no words asked (NotControllable cert) is more same = is.0
-no words asked (Never name cert) is more same = absurd (refuted_is_none more _ (sym same))
-no words asked (Least name most proof cert) is more same = absurd (refuted_is_none more _ (sym same))
-no words asked (Floor name proof) is more same = absurd (refuted_is_none more _ (sym same))
+no : (words : DeadlineWords) (query : PlanPoints) (deadline : Deadline) → IsAnswerOf query.net query.from query.to deadline → (more : List ℕ) → deadline_text words deadline ≡ refuted_line ++ more → IsControllable query.net → ⊥
+no words query (NotControllable cert) is more same = is.0
+no words query (Never name cert) is more same = absurd (refuted_is_none more _ (sym same))
+no words query (Least name most proof cert) is more same = absurd (refuted_is_none more _ (sym same))
+no words query (Floor name proof) is more same = absurd (refuted_is_none more _ (sym same))
 
 -- ---- the second line
 abbrev after_names : DeadlineWords → List ℕ → List ℕ
@@ -139,70 +139,71 @@ lowest_plain = (omega arith, (omega arith, (omega arith, (omega arith, (omega ar
 lowest_is_no_none : at_lowest ≡ no_deadline → ⊥
 lowest_is_no_none same = let byte : ◌≡◌ {A = ℕ} 97 110 = ap first_byte same in omega arith
 
-promised : (words : DeadlineWords) (asked : PlanPoints) (deadline : Deadline) → IsAnswerOf asked.net asked.from asked.to deadline → (most : ℤ) (more : List ℕ) → unsigned_abs most ≤ most_number
-    → deadline_text words deadline ≡ kept_text words (signed_decimal most) more → IsPromised asked most
-promised words asked (NotControllable cert) is most more within same = absurd (refuted_is_none (printed_certificate cert) (deadline_line words (signed_decimal most) ++ more) same)
-promised words asked (Never name cert) is most more within same =
+promised : (words : DeadlineWords) (query : PlanPoints) (deadline : Deadline) → IsAnswerOf query.net query.from query.to deadline → (most : ℤ) (more : List ℕ) → unsigned_abs most ≤ most_number
+    → deadline_text words deadline ≡ kept_text words (signed_decimal most) more → IsPromised query most
+promised words query (NotControllable cert) is most more within same = absurd (refuted_is_none (printed_certificate cert) (deadline_line words (signed_decimal most) ++ more) same)
+promised words query (Never name cert) is most more within same =
     absurd (no_number no_deadline most none_is_no_number within (said_one words no_deadline (signed_decimal most) (printed_certificate cert) more none_plain (plain_number most within) same))
-promised words asked (Least name other proof cert) is most more within same =
+promised words query (Least name other proof cert) is most more within same =
     let deadline = is.says.tightest.deadline in
     let small = within_plan other deadline.from_lowest deadline.to_highest in
     let one = number_one other most small within (said_one words (signed_decimal other) (signed_decimal most) (printed_certificate proof ++ printed_certificate cert) more (plain_number other small) (plain_number most within) same) in
-    subst (IsPromised asked) one (record { name = name; named = is.named; tightest = is.says.tightest })
-promised words asked (Floor name proof) is most more within same =
+    subst (IsPromised query) one (record { name = name; named = is.named; tightest = is.says.tightest })
+promised words query (Floor name proof) is most more within same =
     absurd (no_number at_lowest most floor_is_no_number within (said_one words at_lowest (signed_decimal most) (printed_certificate proof) more lowest_plain (plain_number most within) same))
 
--- no number is said where there is none, or where it is the least
-no_number_said : (words : DeadlineWords) (said : List ℕ) (name : List ℕ) (asked : PlanPoints) (most : ℤ) (proof cert : Certificate) → IsAnswerOf asked.net asked.from asked.to (Least name most proof cert) → IsPlain said
+-- no number is said if there is none, or if it is the least
+no_number_said : (words : DeadlineWords) (said : List ℕ) (name : List ℕ) (query : PlanPoints) (most : ℤ) (proof cert : Certificate) → IsAnswerOf query.net query.from query.to (Least name most proof cert) → IsPlain said
     → integer_of most_number said ≡ Err BadNumber → (more : List ℕ) → deadline_text words (Least name most proof cert) ≡ kept_text words said more → ⊥
-no_number_said words said name asked most proof cert is plain bad more same =
+no_number_said words said name query most proof cert is plain bad more same =
     let deadline = is.says.tightest.deadline in
     let small = within_plan most deadline.from_lowest deadline.to_highest in
     no_number said most bad small (sym (said_one words (signed_decimal most) said (printed_certificate proof ++ printed_certificate cert) more (plain_number most small) plain same))
 
-at_lowest_promised : (words : DeadlineWords) (asked : PlanPoints) (deadline : Deadline) → IsAnswerOf asked.net asked.from asked.to deadline → (more : List ℕ) → deadline_text words deadline ≡ kept_text words at_lowest more
-    → IsPromised asked lowest
-at_lowest_promised words asked (NotControllable cert) is more same = absurd (refuted_is_none (printed_certificate cert) (deadline_line words at_lowest ++ more) same)
-at_lowest_promised words asked (Never name cert) is more same = absurd (lowest_is_no_none (sym (said_one words no_deadline at_lowest (printed_certificate cert) more none_plain lowest_plain same)))
-at_lowest_promised words asked (Least name most proof cert) is more same = absurd (no_number_said words at_lowest name asked most proof cert is lowest_plain floor_is_no_number more same)
-at_lowest_promised words asked (Floor name proof) is more same = record { name = name; named = is.named; tightest = is.says.tightest }
+at_lowest_promised : (words : DeadlineWords) (query : PlanPoints) (deadline : Deadline) → IsAnswerOf query.net query.from query.to deadline → (more : List ℕ) → deadline_text words deadline ≡ kept_text words at_lowest more
+    → IsPromised query lowest
+at_lowest_promised words query (NotControllable cert) is more same = absurd (refuted_is_none (printed_certificate cert) (deadline_line words at_lowest ++ more) same)
+at_lowest_promised words query (Never name cert) is more same = absurd (lowest_is_no_none (sym (said_one words no_deadline at_lowest (printed_certificate cert) more none_plain lowest_plain same)))
+at_lowest_promised words query (Least name most proof cert) is more same = absurd (no_number_said words at_lowest name query most proof cert is lowest_plain floor_is_no_number more same)
+at_lowest_promised words query (Floor name proof) is more same = record { name = name; named = is.named; tightest = is.says.tightest }
 
-none_promised : (words : DeadlineWords) (asked : PlanPoints) (deadline : Deadline) → IsAnswerOf asked.net asked.from asked.to deadline → (more : List ℕ) → deadline_text words deadline ≡ kept_text words no_deadline more
-    → HasNoDeadline asked
-none_promised words asked (NotControllable cert) is more same = absurd (refuted_is_none (printed_certificate cert) (deadline_line words no_deadline ++ more) same)
-none_promised words asked (Never name cert) is more same = record { name = name; named = is.named; none = is.says.none }
-none_promised words asked (Least name most proof cert) is more same = absurd (no_number_said words no_deadline name asked most proof cert is none_plain none_is_no_number more same)
-none_promised words asked (Floor name proof) is more same = absurd (lowest_is_no_none (said_one words at_lowest no_deadline (printed_certificate proof) more lowest_plain none_plain same))
+none_promised : (words : DeadlineWords) (query : PlanPoints) (deadline : Deadline) → IsAnswerOf query.net query.from query.to deadline → (more : List ℕ) → deadline_text words deadline ≡ kept_text words no_deadline more
+    → HasNoDeadline query
+none_promised words query (NotControllable cert) is more same = absurd (refuted_is_none (printed_certificate cert) (deadline_line words no_deadline ++ more) same)
+none_promised words query (Never name cert) is more same = record { name = name; named = is.named; none = is.says.none }
+none_promised words query (Least name most proof cert) is more same = absurd (no_number_said words no_deadline name query most proof cert is none_plain none_is_no_number more same)
+none_promised words query (Floor name proof) is more same = absurd (lowest_is_no_none (said_one words at_lowest no_deadline (printed_certificate proof) more lowest_plain none_plain same))
 
 -- ---- of an input
 module _ (words : DeadlineWords) (input put : List ℕ) (end : End) (answers : AnswersLineOrRefuses (points_in words) refusing (deadline_answers words) input put end) where
   -- what is put first of the network that the input declares says this of it
   says_by : {Says : PlanPoints → Type 0} (before : List ℕ) → ((fault : Fault) → fault_line fault ≡ before → ⊥)
-      → ((asked : PlanPoints) (deadline : Deadline) → IsAnswerOf asked.net asked.from asked.to deadline → deadline_text words deadline ≡ before → Says asked)
-      → put ≡ before → (asked : PlanPoints) (rest : List (List ℕ)) → (points_in words).declares (lines input) asked rest → Says asked
-  says_by {Says} before none so same asked rest declared = by answers
+      → ((query : PlanPoints) (deadline : Deadline) → IsAnswerOf query.net query.from query.to deadline → deadline_text words deadline ≡ before → Says query)
+      → put ≡ before → (query : PlanPoints) (rest : List (List ℕ)) → (points_in words).declares (lines input) query rest → Says query
+  says_by {Says} before none so same query rest declared = by answers
     where
-      by : AnswersLineOrRefuses (points_in words) refusing (deadline_answers words) input put end → Says asked
+      by : AnswersLineOrRefuses (points_in words) refusing (deadline_answers words) input put end → Says query
       by (inl (other, after, is, inl puts)) =
-          let one = (value_one points_reader (deadline_start words).text 0 (points_in words) (points_by_grammar words) (lines input) other asked after rest is declared).0 in
+          let one = (value_one points_reader (deadline_start words).text 0 (points_in words) (points_by_grammar words) (lines input) other query after rest is declared).0 in
           subst Says one (so other puts.deadline puts.is (sym puts.text ∙ same))
-      by (inl (other, after, is, inr puts)) = absurd (none (no_room (goal_number words.notation (last_before after (lines input)))) (sym puts.line ∙ same))
+      by (inl (other, after, is, inr puts)) = absurd (none (bounds_limit_fault (goal_number words.notation (last_before after (lines input)))) (sym puts.line ∙ same))
       by (inr (fault, first, puts)) = absurd (none fault (sym puts.0 ∙ same))
 
-  pub yes_by : (more : List ℕ) → put ≡ controllable_line ++ more → (asked : PlanPoints) (rest : List (List ℕ)) → (points_in words).declares (lines input) asked rest → IsControllable asked.net
-  yes_by more = says_by (controllable_line ++ more) (λ fault. no_refusal_is_controllable fault more) (λ asked deadline is. yes words asked deadline is more)
+  pub yes_by : (more : List ℕ) → put ≡ controllable_line ++ more → (query : PlanPoints) (rest : List (List ℕ)) → (points_in words).declares (lines input) query rest → IsControllable query.net
+  yes_by more = says_by (controllable_line ++ more) (λ fault. no_refusal_is_controllable fault more) (λ query deadline is. yes words query deadline is more)
 
-  pub no_by : (more : List ℕ) → put ≡ refuted_line ++ more → (asked : PlanPoints) (rest : List (List ℕ)) → (points_in words).declares (lines input) asked rest → IsControllable asked.net → ⊥
-  no_by more = says_by (refuted_line ++ more) (λ fault. no_refusal_is_refuted fault more) (λ asked deadline is. no words asked deadline is more)
+  pub no_by : (more : List ℕ) → put ≡ refuted_line ++ more → (query : PlanPoints) (rest : List (List ℕ)) → (points_in words).declares (lines input) query rest → IsControllable query.net → ⊥
+  no_by more = says_by (refuted_line ++ more) (λ fault. no_refusal_is_refuted fault more) (λ query deadline is. no words query deadline is more)
 
-  pub promised_by : (most : ℤ) (more : List ℕ) → unsigned_abs most ≤ most_number → put ≡ kept_text words (signed_decimal most) more → (asked : PlanPoints) (rest : List (List ℕ)) → (points_in words).declares (lines input) asked rest → IsPromised asked most
+  pub promised_by : (most : ℤ) (more : List ℕ) → unsigned_abs most ≤ most_number → put ≡ kept_text words (signed_decimal most) more → (query : PlanPoints) (rest : List (List ℕ)) → (points_in words).declares (lines input) query rest
+      → IsPromised query most
   promised_by most more within =
-      says_by (kept_text words (signed_decimal most) more) (λ fault. no_refusal_is_controllable fault (deadline_line words (signed_decimal most) ++ more)) (λ asked deadline is. promised words asked deadline is most more within)
+      says_by (kept_text words (signed_decimal most) more) (λ fault. no_refusal_is_controllable fault (deadline_line words (signed_decimal most) ++ more)) (λ query deadline is. promised words query deadline is most more within)
 
-  pub at_lowest_by : (more : List ℕ) → put ≡ kept_text words at_lowest more → (asked : PlanPoints) (rest : List (List ℕ)) → (points_in words).declares (lines input) asked rest → IsPromised asked lowest
+  pub at_lowest_by : (more : List ℕ) → put ≡ kept_text words at_lowest more → (query : PlanPoints) (rest : List (List ℕ)) → (points_in words).declares (lines input) query rest → IsPromised query lowest
   at_lowest_by more =
-      says_by (kept_text words at_lowest more) (λ fault. no_refusal_is_controllable fault (deadline_line words at_lowest ++ more)) (λ asked deadline is. at_lowest_promised words asked deadline is more)
+      says_by (kept_text words at_lowest more) (λ fault. no_refusal_is_controllable fault (deadline_line words at_lowest ++ more)) (λ query deadline is. at_lowest_promised words query deadline is more)
 
-  pub none_by : (more : List ℕ) → put ≡ kept_text words no_deadline more → (asked : PlanPoints) (rest : List (List ℕ)) → (points_in words).declares (lines input) asked rest → HasNoDeadline asked
+  pub none_by : (more : List ℕ) → put ≡ kept_text words no_deadline more → (query : PlanPoints) (rest : List (List ℕ)) → (points_in words).declares (lines input) query rest → HasNoDeadline query
   none_by more =
-      says_by (kept_text words no_deadline more) (λ fault. no_refusal_is_controllable fault (deadline_line words no_deadline ++ more)) (λ asked deadline is. none_promised words asked deadline is more)
+      says_by (kept_text words no_deadline more) (λ fault. no_refusal_is_controllable fault (deadline_line words no_deadline ++ more)) (λ query deadline is. none_promised words query deadline is more)

@@ -1,4 +1,4 @@
 pub mod Points
-pub mod Asking
+pub mod DeadlineAnswers
 pub mod DeadlinePromise
 pub mod Words

@@ -3,8 +3,8 @@ use Rattle.std.specs.Prelude.{◌≡◌, List, [], ◌∷◌, IsTrue}
 use Rattle.net_model.specs.Names.{is_name}
 use Rattle.command_words.specs.Arguments.{is_given, operand_texts}
 use Rattle.command_words.specs.Syntax.{Syntax, Text}
-use Rattle.command_frame.specs.Workers.{SayWithWorkers}
-use Rattle.plan_inputs.specs.PlanInput.{json_name, notation_by}
+use Rattle.command_contracts.specs.WorkerCounts.{SayWithWorkers}
+use Rattle.input_texts.specs.PlanInput.{json_name, notation_by}
 use Rattle.deadline_command.specs.declared.points.DeadlineWords.{DeadlineWords}
 
 -- the words say uses of this command: these two names, this notation of the plan, and a number of workers or none

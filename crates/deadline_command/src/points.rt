@@ -2,12 +2,13 @@
 
 ghost use Rattle.std.specs.Prelude.{◌≡◌, IfSome};
 ghost use Rattle.net_model.specs.Network.{IsPoint};
-ghost use Rattle.deadline_command.specs.Points.{goal_number, no_room, point_tests, points_by, unknown_point};
+ghost use Rattle.deadline_command.specs.Points.{goal_number, bounds_limit_fault, point_tests};
+ghost use Rattle.deadline_command.specs.Points.{points_by, unknown_point};
 
 use command_engine::Test;
 use common_answers::Fault;
+use input_texts::{Notation, PlanNetwork};
 use net_model::{BuildFault, Name, Network, PointId, Which};
-use plan_inputs::{Notation, PlanNetwork};
 use std::alloc::{AllocError, Global};
 use std::marker::Model;
 
@@ -34,7 +35,8 @@ impl DeadlineWords {
     }
 }
 
-/// A network that an input declares, and two points of it. Contracts see the network and the points.
+/// A network that an input declares, and two points of it. Contracts see the network and the
+/// points.
 #[derive(Drop)]
 pub struct PlanPoints {
     net: PlanNetwork,
@@ -68,7 +70,8 @@ impl PlanPoints {
     }
 }
 
-/// As a test of the network of a plan: that it has points of both names.
+/// As a test of the network of a plan: that it has points of both names, of which the first is
+/// sought first. A plan that has not is refused when it ends, before anything is decided.
 impl Test<PlanNetwork, Fault> for DeadlineWords {
     type Value = PlanPoints;
 
@@ -80,34 +83,36 @@ impl Test<PlanNetwork, Fault> for DeadlineWords {
         value: PlanNetwork,
         number: u32,
     ) -> Result<Result<PlanPoints, Fault>, AllocError> {
-        let told = goal_number(self.notation, number);
+        let reported = goal_number(self.notation, number);
         let from = value.network().point(self.from.bytes());
         let to = value.network().point(self.to.bytes());
-        Ok(with_points(told, value, from, to))
+        Ok(with_points(reported, value, from, to))
     }
 }
 
-/// A network and its two points, where it has both; else it is told by this number that there is none.
+/// A network and its two points, if it has both; else it is reported by this number that there is
+/// none.
 fn with_points(
-    told: u32,
+    reported: u32,
     net: PlanNetwork,
     from: Option<PointId>,
     to: Option<PointId>,
 ) -> Result<PlanPoints, Fault>
     requires from { IfSome from (IsPoint net) }
     requires to { IfSome to (IsPoint net) }
-    ensures { result ≡ points_by told net from to }
+    ensures { result ≡ points_by reported net from to }
 {
     let Some(from) = from else {
-        return Err(unknown_point(told));
+        return Err(unknown_point(reported));
     };
     let Some(to) = to else {
-        return Err(unknown_point(told));
+        return Err(unknown_point(reported));
     };
     Ok(PlanPoints { net, from, to })
 }
 
-/// The number by which the bound of the goal is told where it is refused: that of the line that ends the plan, and 0 of a document.
+/// The number by which the bound of the goal is reported if it is refused: that of the line that
+/// ends the plan, and 0 of a document.
 pub(crate) fn goal_number(notation: Notation, number: u32) -> u32
     ensures { result ≡ goal_number notation number }
 {
@@ -118,15 +123,15 @@ pub(crate) fn goal_number(notation: Notation, number: u32) -> u32
 }
 
 /// The plan has no point of one of its names.
-fn unknown_point(told: u32) -> Fault
-    ensures { result ≡ unknown_point told }
+fn unknown_point(reported: u32) -> Fault
+    ensures { result ≡ unknown_point reported }
 {
-    Fault::Part(told, BuildFault::UnknownName(0))
+    Fault::Part(reported, BuildFault::UnknownName(0))
 }
 
 /// The plan has as many bounds as it may have.
-pub(crate) fn no_room(told: u32) -> Fault
-    ensures { result ≡ no_room told }
+pub(crate) fn bounds_limit_fault(reported: u32) -> Fault
+    ensures { result ≡ bounds_limit_fault reported }
 {
-    Fault::Part(told, BuildFault::Limit(Which::Bounds, 0))
+    Fault::Part(reported, BuildFault::Limit(Which::Bounds, 0))
 }

@@ -1,4 +1,4 @@
--- What is answered where a search ends is so.
+-- What is answered at the end of a search is so.
 use Rattle.std.proofs.Common.{◌≡◌, ◌⊎◌, inl, inr, ℤ, pos, ◌-ℤ◌, ◌≤ℤ◌, ◌<ℤ◌, ◌<◌, ◌≤◌, Result, Ok, Err, length, subst, refl, arith}
 use Rattle.std.specs.Result.{IsErr, IsErrAnd}
 use Rattle.std.proofs.lemmas.Int.{ints}
@@ -8,22 +8,22 @@ use Rattle.net_model.specs.declared.ids.PointId.{PointId}
 use Rattle.strategy_model.specs.Control.{IsControllable}
 use Rattle.strategy_model.specs.LooserLaws.{LooserBoundsKeepControl}
 use Rattle.cert_format.specs.declared.certificate.Certificate.{Certificate}
-use Rattle.table_closing.specs.declared.closing.Closed.{Closed}
+use Rattle.network_closure.specs.declared.closure.Closed.{Closed}
 use Rattle.verdicts.specs.Verdict.{IsVerdict}
 use Rattle.verdicts.specs.declared.verdict.Verdict.TheVariants.{Controllable, Refuted}
 use Rattle.deadline_search.specs.Answers.{Answers, IsAnswerOf, ProvesAt, RefutesAt}
 use Rattle.deadline_search.specs.Deadlines.{IsDeadline, IsFull, highest, lowest}
 use Rattle.deadline_search.specs.Goals.{IsGoalName}
-use Rattle.deadline_search.specs.Searching.{IsKept, IsLastKept}
+use Rattle.deadline_search.specs.Trials.{IsKeptDeadline, IsLastKept}
 use Rattle.deadline_search.specs.declared.answer.Deadline.{Deadline}
 use Rattle.deadline_search.specs.declared.answer.DeadlineFault.{DeadlineFault}
 use Rattle.deadline_search.specs.declared.answer.DeadlineFault.TheVariants.{Full, OutOfMemory}
 use Rattle.deadline_search.specs.declared.answer.Deadline.TheVariants.{NotControllable, Never, Least, Floor}
 use Rattle.deadline_search.specs.declared.goal.Goal.{Goal}
-use Rattle.deadline_search.specs.declared.search.Kept.{Kept}
+use Rattle.deadline_search.specs.declared.goal_search.Kept.{Kept}
 use Rattle.deadline_search.proofs.GoalLemmas.{none_by_highest, tightest_at_lowest, tightest_by_one}
 
--- the number before the last deadline that is kept is none, where that is not the lowest
+-- the number before the last deadline that is kept is none, if that is not the lowest
 pub before_last : (net : Plan) (goal : Goal) (kept : Kept) (before : ℤ) → before ≡ kept.most -ℤ pos 1 → IsLastKept net goal kept → lowest <ℤ kept.most → ¬ IsDeadline net goal before
 before_last net goal kept before is last above = by last.last
   where
@@ -40,7 +40,7 @@ module _ (net : Plan) (goal : Goal) (controls : IsControllable net) (named : IsG
     says = record { none = none_by_highest law net goal none; refuted = refuted };
   }
 
-  pub floor_is : LooserBoundsKeepControl → (kept : Kept) (proof : Certificate) → IsKept net goal kept → kept.most ≤ℤ lowest → ProvesAt net goal kept.most proof → IsAnswerOf net goal.from goal.to (Floor goal.name proof)
+  pub floor_is : LooserBoundsKeepControl → (kept : Kept) (proof : Certificate) → IsKeptDeadline net goal kept → kept.most ≤ℤ lowest → ProvesAt net goal kept.most proof → IsAnswerOf net goal.from goal.to (Floor goal.name proof)
   floor_is law kept proof holds low proves =
       let same : kept.most ≡ lowest = omega (arith, ints, low, holds.deadline.from_lowest) in
       record {
@@ -62,7 +62,7 @@ module _ (net : Plan) (goal : Goal) (controls : IsControllable net) (named : IsG
     };
   }
 
--- where memory runs out nothing is said
+-- if memory runs out nothing is said
 pub memory_is : (net : Plan) (from to : PointId) (answer : Result Deadline DeadlineFault) → IsErr answer → IsErrAnd answer (λ (fault : DeadlineFault). fault ≡ OutOfMemory) → Answers net from to answer
 memory_is net from to (Ok deadline) err is = absurd (cc)
 memory_is net from to (Err OutOfMemory) err is = tt
@@ -78,8 +78,8 @@ module _ (net : Plan) where
 
   pub answer_is : (stated shown : Plan) (closed : Closed) (from to : PointId) (deadline : Deadline) → IsVerdict net (Controllable stated shown closed) → length stated.bounds < most_bounds → IsAnswerOf stated from to deadline
       → Answers net from to (Ok deadline)
-  answer_is stated shown closed from to deadline (is, by) room answer =
-      let few : length net.bounds < most_bounds = subst (λ (n : Plan). length n.bounds < most_bounds) is room in
+  answer_is stated shown closed from to deadline (is, by) spare_capacity answer =
+      let few : length net.bounds < most_bounds = subst (λ (n : Plan). length n.bounds < most_bounds) is spare_capacity in
       ((λ full. absurd (omega (arith, few, full.bounds))), subst (λ (n : Plan). IsAnswerOf n from to deadline) is answer)
 
   pub refuted_is : (refutation : Certificate) (from to : PointId) → IsVerdict net (Refuted refutation) → Answers net from to (Ok (NotControllable refutation))

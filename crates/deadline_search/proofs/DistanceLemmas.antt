@@ -1,4 +1,4 @@
--- How far a number is above another, and that it is less far where one comes nearer to the other.
+-- How far a number is above another, and that it is less far if one comes nearer to the other.
 use Rattle.std.proofs.Common.{◌≡◌, ℕ, ℤ, Bool, true, false, ◌+◌, ◌-◌, ◌<◌, ◌≤ℤ◌, ◌<ℤ◌, refl, arith}
 use lib.Dec.{T}
 use lib.Signed.{lt_z, le_z}

@@ -1,4 +1,4 @@
--- The bound of a goal can be added, and a deadline stays one where it is put off.
+-- The bound of a goal can be added, and a deadline stays one if it is put off.
 use Rattle.std.proofs.Common.{◌≡◌, ◌≢◌, ℕ, ℤ, List, [], ◌∷◌, ◌++◌, length, Result, Ok, Err, refl, subst, ◌∙◌, true, false, arith, pos, ◌-ℤ◌, ◌≤ℤ◌, ◌<ℤ◌, ap, w64, to_z, of_z}
 use Rattle.std.specs.Prelude.{nat_le, unsigned_abs}
 use Rattle.std.specs.List.{AllZip}
@@ -6,8 +6,8 @@ use Rattle.std.specs.Int.Signed.{≤ℤ_refl}
 use Rattle.std.proofs.lemmas.Bool.{leb-true, lt-leb}
 use Rattle.std.proofs.lemmas.Int.{fits_signed_from_abs, ints, to_z-of_z}
 use Rattle.std.proofs.lemmas.List.Elements.{AllZip-push}
-use Rattle.net_model.specs.Building.{named, with_bound}
-use Rattle.net_model.specs.Editing.{Edits, added, edited}
+use Rattle.net_model.specs.BuiltNetwork.{named, with_bound}
+use Rattle.net_model.specs.EditedNetwork.{Edits, added, edited}
 use Rattle.net_model.specs.Limits.{most_bounds, most_number, within_limit}
 use Rattle.net_model.specs.Network.{Plan, IsPlan, IsPoint}
 use Rattle.net_model.specs.NetworkParts.{point_name}
@@ -16,12 +16,12 @@ use Rattle.net_model.specs.declared.edit.EditFault.{EditFault}
 use Rattle.net_model.specs.declared.edit.EditFault.TheVariants as fault
 use Rattle.net_model.specs.declared.ids.PointId.{PointId}
 use Rattle.net_model.specs.declared.part.Bound.{Bound}
-use Rattle.refutations.proofs.Named.{named_point}
+use Rattle.refutation_certificates.proofs.ItemNames.{named_point}
 use Rattle.strategy_model.specs.Control.{IsControllable}
 use Rattle.strategy_model.specs.LooserLaws.{IsLoosened, LooserBoundsKeepControl}
 use Rattle.deadline_search.specs.Deadlines.{IsDeadline, IsTightest, highest, lowest}
 use Rattle.deadline_search.specs.Goals.{goal_bound, with_goal}
-use Rattle.deadline_search.specs.Searching.{IsGoalFor}
+use Rattle.deadline_search.specs.Trials.{IsGoalFor}
 use Rattle.deadline_search.specs.declared.goal.Goal.{Goal}
 
 -- a number from the lowest to the highest is one that a plan may have
@@ -34,7 +34,7 @@ stays most low high =
     let small = leb-true (unsigned_abs most) most_number (within_range most low high) in
     to_z-of_z w64 most (fits_signed_from_abs w64 most (omega (arith, small)))
 
--- and so is the number before it, where it is not the lowest
+-- and so is the number before it, if it is not the lowest
 pub stays_before : (most : ℤ) → lowest <ℤ most → most ≤ℤ highest → to_z w64 (of_z w64 (to_z w64 (of_z w64 most) -ℤ pos 1)) ≡ most -ℤ pos 1
 stays_before most above high =
     let was : to_z w64 (of_z w64 most) ≡ most = stays most (omega (arith, ints, above)) high in
@@ -49,8 +49,8 @@ bound_added : (net : Plan) (goal : Goal) (most : ℤ) → IsPlan net → IsGoalF
     → with_bound net goal.name (point_name net.points goal.from) (point_name net.points goal.to) most ≡ Ok (with_goal net goal most)
 unfolding with_bound
 bound_added net goal most plan for within =
-    let room : nat_le most_bounds (length net.bounds) ≡ false = lt-leb most_bounds (length net.bounds) for.room in
-    rw (for.free, name_known net goal.from plan for.from_point, name_known net goal.to plan for.to_point, within, room) refl
+    let spare_capacity : nat_le most_bounds (length net.bounds) ≡ false = lt-leb most_bounds (length net.bounds) for.spare_capacity in
+    rw (for.free, name_known net goal.from plan for.from_point, name_known net goal.to plan for.to_point, within, spare_capacity) refl
 
 -- the edit that adds the bound of a goal gives the network with it
 pub goal_added : (net : Plan) (goal : Goal) (most : ℤ) → IsPlan net → IsGoalFor net goal → lowest ≤ℤ most → most ≤ℤ highest
@@ -102,11 +102,11 @@ put_off law net goal low high later limit deadline = record {
   kept = kept_later law net goal low high later deadline.kept;
 }
 
--- where the greatest number is no deadline, none is
+-- if the greatest number is no deadline, none is
 pub none_by_highest : LooserBoundsKeepControl → (net : Plan) (goal : Goal) → (¬ IsDeadline net goal highest) → (most : ℤ) → ¬ IsDeadline net goal most
 none_by_highest law net goal never most = λ deadline. never (put_off law net goal most highest deadline.to_highest (≤ℤ_refl highest) deadline)
 
--- where the number before a deadline is none, it is the tightest
+-- if the number before a deadline is none, it is the tightest
 pub tightest_by_one : LooserBoundsKeepControl → (net : Plan) (goal : Goal) (most before : ℤ) → before ≡ most -ℤ pos 1 → IsDeadline net goal most → (¬ IsDeadline net goal before) → IsTightest net goal most
 tightest_by_one law net goal most before is deadline never = record {
   deadline = deadline;
@@ -114,6 +114,6 @@ tightest_by_one law net goal most before is deadline never = record {
   least = λ other below earlier. never (put_off law net goal other before (omega (arith, ints, is, below)) (omega (arith, ints, is, deadline.to_highest)) earlier);
 }
 
--- the least number that a plan may have is the tightest where it is a deadline
+-- the least number that a plan may have is the tightest if it is a deadline
 pub tightest_at_lowest : LooserBoundsKeepControl → (net : Plan) (goal : Goal) → IsDeadline net goal lowest → IsTightest net goal lowest
 tightest_at_lowest law net goal deadline = tightest_by_one law net goal lowest (lowest -ℤ pos 1) refl deadline (λ before. absurd (omega (arith, ints, before.from_lowest)))

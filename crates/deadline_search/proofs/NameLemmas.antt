@@ -1,4 +1,4 @@
--- The names of goals: each is a name, they differ, and so one is free where there are fewer bounds than names.
+-- The names of goals: each is a name, they differ, and so one is free if there are fewer bounds than names.
 use Rattle.std.proofs.Common.{◌≡◌, ℕ, ◌+◌, ◌≤◌, ◌<◌, ◌^◌, zero, suc, Bool, true, List, [], ◌∷◌, ◌++◌, length, drop, map, get_or, Option, Some, None, position, inl, inr, refl, sym, ap, subst, ◌∙◌, pos, arith, eqb, ltb}
 use Rattle.std.specs.Prelude.{codes}
 use Rattle.std.specs.Option.{IsSome, option_map}
@@ -80,15 +80,16 @@ numbered net place small some = by (position named net.bounds) refl some
         let inside : k < length (map number net.bounds) = omega (arith, found.0, length-map net.bounds number) in
         list_any_at (eqb place) (map number net.bounds) k 0 inside (rw here (grind (arith, nat_tests)))
 
--- where each name up to a place is that of a bound, there are as many bounds
+-- if each name up to a place is that of a bound, there are as many bounds
 pub as_many_bounds : (net : Plan) (place : ℕ) → place ≤ 2 ^ 32 → ((earlier : ℕ) → earlier < place → IsSome (bound_named net (goal_name earlier))) → place ≤ length net.bounds
 as_many_bounds net place small taken =
     let number = λ (b : Bound). number_of b.name in
     let many : place ≤ length (map number net.bounds) = le-length_from_below (map number net.bounds) place (λ earlier below. numbered net earlier (omega (arith, small, below)) (taken earlier below)) in
     omega (arith, many, length-map net.bounds number)
 
--- a name that a bound has is taken, and so are those up to it where those before it are
-pub taken_up_to : (net : Plan) (place : ℕ) → ((earlier : ℕ) → earlier < place → IsSome (bound_named net (goal_name earlier))) → IsSome (bound_named net (goal_name place)) → (earlier : ℕ) → earlier < place + 1 → IsSome (bound_named net (goal_name earlier))
+-- a name that a bound has is taken, and so are those up to it if those before it are
+pub taken_up_to : (net : Plan) (place : ℕ) → ((earlier : ℕ) → earlier < place → IsSome (bound_named net (goal_name earlier))) → IsSome (bound_named net (goal_name place)) → (earlier : ℕ) → earlier < place + 1
+    → IsSome (bound_named net (goal_name earlier))
 taken_up_to net place before here earlier below =
     elim (cases_lt earlier place) [
       | inl inside ↦ before earlier inside

@@ -6,8 +6,8 @@ use Rattle.net_model.specs.ShownForm.{shown_form}
 use Rattle.net_model.specs.declared.ids.PointId.{PointId}
 use Rattle.strategy_model.specs.Control.{IsControllable}
 use Rattle.cert_format.specs.declared.certificate.Certificate.{Certificate}
-use Rattle.refutations.specs.Refuting.{Refutes}
-use Rattle.table_proofs.specs.Certified.{Proves}
+use Rattle.refutation_certificates.specs.Refutations.{Refutes}
+use Rattle.closure_certificates.specs.Certified.{Proves}
 use Rattle.deadline_search.specs.Goals.{IsGoalName, with_goal}
 use Rattle.deadline_search.specs.Deadlines.{IsDeadline, IsFull, IsTightest, highest, lowest}
 use Rattle.deadline_search.specs.declared.goal.Goal.{Goal}
@@ -30,7 +30,7 @@ pub record IsNever (net : Plan) (goal : Goal) (refutation : Certificate) : Type 
   pub refuted : RefutesAt net goal highest refutation
 
 -- a number is the tightest deadline, and not the least that a plan may have; it is proved, and the one below it refuted
-pub record IsLeast (net : Plan) (goal : Goal) (most : ℤ) (proof refutation : Certificate) : Type 0 where
+pub record IsLeastDeadline (net : Plan) (goal : Goal) (most : ℤ) (proof refutation : Certificate) : Type 0 where
   pub tightest : IsTightest net goal most
   pub above_lowest : lowest <ℤ most
   pub proved : ProvesAt net goal most proof
@@ -47,14 +47,15 @@ pub record HasGoal (net : Plan) (from to : PointId) (name : List ℕ) (Says : Go
   pub named : IsGoalName net name
   pub says : Says (record { name = name; from = from; to = to })
 
--- the answer for two points of a network
+-- the answer for two points of a network: that it is not controllable, with the certificate that refutes it; or, of a controllable one,
+-- that no number is a deadline, or the tightest deadline, each with its certificates
 abbrev pub IsAnswerOf : Plan → (from to : PointId) → Deadline → Type 0
 IsAnswerOf net from to (NotControllable refutation) = (¬ IsControllable net) × Refutes (shown_form net) refutation
 IsAnswerOf net from to (Never name refutation) = HasGoal net from to name (λ goal. IsNever net goal refutation)
-IsAnswerOf net from to (Least name most proof refutation) = HasGoal net from to name (λ goal. IsLeast net goal most proof refutation)
+IsAnswerOf net from to (Least name most proof refutation) = HasGoal net from to name (λ goal. IsLeastDeadline net goal most proof refutation)
 IsAnswerOf net from to (Floor name proof) = HasGoal net from to name (λ goal. IsFloor net goal proof)
 
--- what is answered, or that there is no room for the bound, exactly where there is none, unless memory ran out
+-- what is answered, or that there is no capacity for the bound, exactly if there is none, unless memory ran out
 abbrev pub Answers : Plan → (from to : PointId) → Result Deadline DeadlineFault → Type 0
 Answers net from to (Ok deadline) = (¬ IsFull net) × IsAnswerOf net from to deadline
 Answers net from to (Err Full) = IsFull net

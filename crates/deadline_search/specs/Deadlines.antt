@@ -25,7 +25,7 @@ pub record IsTightest (net : Plan) (goal : Goal) (most : ℤ) : Type 0 where
   pub later : (other : ℤ) → most ≤ℤ other → other ≤ℤ highest → IsDeadline net goal other
   pub least : (other : ℤ) → other <ℤ most → ¬ IsDeadline net goal other
 
--- a controllable network that has no room for one bound more
+-- a controllable network that has no capacity for one bound more
 pub record IsFull (net : Plan) : Type 0 where
   pub controllable : IsControllable net
   pub bounds : length net.bounds ≡ most_bounds

@@ -1,4 +1,4 @@
 pub mod Goals
 pub mod Deadlines
 pub mod Answers
-pub mod Searching
+pub mod Trials

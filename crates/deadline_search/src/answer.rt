@@ -1,12 +1,14 @@
-//! What is answered of the tightest deadline.
+//! The answer to the question for the tightest deadline.
 
 use cert_format::Certificate;
 use net_model::{Name, Weight};
 use std::alloc::AllocError;
 
-/// The least number, from `LOWEST` to `HIGHEST`, for which some strategy controls a network with the bound `to - from <= most`, in whole
-/// moments. `goal` is the name of that bound: the first of `goal`, `goal.1`, `goal.2` and so on that no bound of the network has. Each
-/// certificate is the one that the network with the bound has by its verdict, and speaks of its shown form.
+/// The least number, from `LOWEST` to `HIGHEST`, for which some strategy controls a network with
+/// the bound `to - from <= most`, in whole moments. `goal` is the name of that bound: the first of
+/// `goal`, `goal.1`, `goal.2` and so on that no bound of the network has. Each certificate is the
+/// one that the network with the bound has by its verdict, and speaks of its shown form. With each
+/// greater number up to `HIGHEST` some strategy controls it too.
 #[derive(Debug, Drop)]
 pub enum Deadline {
     /// No strategy controls the network even without the bound, and this refutes it.
@@ -18,8 +20,8 @@ pub enum Deadline {
         goal: Name,
         refutation: Certificate,
     },
-    /// The least number is `most`, above `LOWEST`: this proves the network with the bound at it controllable, and refutes it at the number
-    /// before.
+    /// The least number is `most`, above `LOWEST`: this proves the network with the bound at it
+    /// controllable, and refutes it at the number before.
     Least {
         goal: Name,
         most: Weight,

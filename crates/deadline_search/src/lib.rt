@@ -1,15 +1,16 @@
-//! The tightest deadline: the least number for which a network with one bound more can be controlled, certified on both sides.
+//! The tightest deadline: the least number for which a network with one bound more can be
+//! controlled, certified on both sides.
 #![tactic(auto)]
 
 mod answer;
-mod certifying;
-mod finding;
+mod bisection;
+mod certified_answer;
+mod first_guess;
 mod goal;
-mod guessing;
-mod naming;
-mod search;
-mod searching;
+mod goal_names;
+mod goal_search;
+mod tightest_deadline;
 
 pub use answer::{Deadline, DeadlineFault};
-pub use finding::tightest;
 pub use goal::{HIGHEST, LOWEST};
+pub use tightest_deadline::tightest;

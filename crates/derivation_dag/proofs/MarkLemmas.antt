@@ -106,7 +106,7 @@ swept_none nodes start n all same = record {
 }
 
 module _ (nodes : List Node) (start marks : List Bool) (place : ℕ) (node : Node) (earlier : PremisesStandEarlier nodes) (here : slice_get nodes place ≡ Some node) (swept : Swept nodes start marks (suc place)) where
-  -- the place is passed where it is not marked
+  -- the place is passed if it is not marked
   pub swept_unmarked : get_or marks place false ≡ false → Swept nodes start marks place
   swept_unmarked unmarked = record {
     size = swept.size;
@@ -126,9 +126,10 @@ module _ (nodes : List Node) (start marks : List Bool) (place : ℕ) (node : Nod
               swept.closed id premise n (omega arith) at is among
 
   premises_within : All (λ (premise : NodeId). premise.0 < length marks) (premises_of node.rule)
-  premises_within = All-weaker (λ (p : NodeId). p.0 < place) (λ (p : NodeId). p.0 < length marks) (λ p below. let size : length marks ≡ length nodes = swept.size in let w : suc place ≤ length nodes = swept.within in omega arith) (premises_of node.rule) (earlier (record { 0 = place }) node here)
+  premises_within = All-weaker (λ (p : NodeId). p.0 < place) (λ (p : NodeId). p.0 < length marks) (λ p below. let size : length marks ≡ length nodes = swept.size in let w : suc place ≤ length nodes = swept.within in
+      omega arith) (premises_of node.rule) (earlier (record { 0 = place }) node here)
 
-  -- where it is marked, its premises are
+  -- if it is marked, its premises are
   pub swept_marked : get_or marks place false ≡ true → Swept nodes start (marked_with marks (premises_of node.rule)) place
   swept_marked marked = record {
     size = length-marked_with marks (premises_of node.rule) ∙ swept.size;
@@ -141,10 +142,11 @@ module _ (nodes : List Node) (start marks : List Bool) (place : ℕ) (node : Nod
       sound : (id : NodeId) → Contains (premises_of node.rule) id ⊎ IsMarked marks id → (top : NodeId) × IsMarked start top × IsUnder nodes id top
       sound id (inr was) = swept.sound id was
       sound id (inl among) =
-          let (top, begun, above) = swept.sound (record { 0 = place }) marked in
-          (top, begun, under_trans nodes id (record { 0 = place }) top (under (record { 0 = place }) id node here among (itself id refl)) above)
+          let (top, marked_first, above) = swept.sound (record { 0 = place }) marked in
+          (top, marked_first, under_trans nodes id (record { 0 = place }) top (under (record { 0 = place }) id node here among (itself id refl)) above)
 
-      closed : (id premise : NodeId) (n : Node) → place ≤ id.0 → node_at nodes id ≡ Some n → Contains (premises_of node.rule) id ⊎ IsMarked marks id → Contains (premises_of n.rule) premise → IsMarked (marked_with marks (premises_of node.rule)) premise
+      closed : (id premise : NodeId) (n : Node) → place ≤ id.0 → node_at nodes id ≡ Some n → Contains (premises_of node.rule) id ⊎ IsMarked marks id → Contains (premises_of n.rule) premise
+          → IsMarked (marked_with marks (premises_of node.rule)) premise
       closed id premise n from at (inl inside) among =
           let below : id.0 < place = All-contains (λ (p : NodeId). p.0 < place) (premises_of node.rule) id (earlier (record { 0 = place }) node here) inside in
           absurd (omega arith)
@@ -251,8 +253,8 @@ ancestors_from nodes ids n marks found size within sound whole are = record {
 
     below_given : (below : NodeId) → Contains found below → (id : NodeId) × Contains ids id × IsUnder nodes below id
     below_given below inside =
-        let (top, begun, descent) = sound below ((are.each below).0 inside) in
-        by top descent (marked_with_cases (replicate n false) ids top begun)
+        let (top, marked_first, descent) = sound below ((are.each below).0 inside) in
+        by top descent (marked_with_cases (replicate n false) ids top marked_first)
       where
         by : (top : NodeId) → IsUnder nodes below top → Contains ids top ⊎ IsMarked (replicate n false) top → (id : NodeId) × Contains ids id × IsUnder nodes below id
         by top descent (inl given) = (top, given, descent)
@@ -273,4 +275,4 @@ module _ (nodes : List Node) (start marks : List Bool) (place k : ℕ) (d : Node
   step_marked marked = swept_marked nodes start marks k (get_or nodes k d) earlier there at_suc marked
 
 pub swept_end : (nodes : List Node) (start marks : List Bool) (place : ℕ) → place ≡ 0 → Swept nodes start marks place → (id top : NodeId) → IsMarked start top → IsUnder nodes id top → IsMarked marks id
-swept_end nodes start marks place none swept id top begun descent = swept_whole nodes start marks (subst (Swept nodes start marks) none swept) id top (swept.kept top begun) descent
+swept_end nodes start marks place none swept id top marked_first descent = swept_whole nodes start marks (subst (Swept nodes start marks) none swept) id top (swept.kept top marked_first) descent

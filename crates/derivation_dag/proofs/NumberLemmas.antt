@@ -14,10 +14,10 @@ use Rattle.closure_model.specs.Derivations.{node_at, IsNodeOf, IsNewest}
 use Rattle.closure_model.specs.declared.derivation.Node.{Node}
 use Rattle.closure_model.specs.declared.derivation.NodeId.{NodeId}
 use Rattle.closure_model.proofs.Newest.{none_after, kept_after, new_after}
-use Rattle.derivation_dag.specs.Places.{place_in, told}
+use Rattle.derivation_dag.specs.Places.{dense_place, recorded}
 use Rattle.derivation_dag.specs.declared.key.EdgeKey.{EdgeKey}
 use Rattle.derivation_dag.specs.declared.numbers.Numbers.{Numbers}
-use Rattle.derivation_dag.specs.Numbers.{same_edge_key, edge_key, number_at, number_of, IsWithout, AreSame, NumbersNodes, IsBelowAll, IsHeld}
+use Rattle.derivation_dag.specs.Numbers.{same_edge_key, edge_key, number_at, number_of, IsWithout, AreSame, NumbersNodes, IsBelowAll, HasNodeAtMost}
 
 -- ---- edge keys that pass the test are the same
 both_true : (a b : Bool) → (a && b) ≡ true → (a ≡ true) × (b ≡ true)
@@ -29,10 +29,10 @@ true_both true b one two = two
 true_both false b one two = absurd cc
 
 same_label : (E : LinkId → LinkId → Bool) → ((x y : LinkId) → E x y ≡ true → x ≡ y) → (o p : Option LinkId) → option_eq E o p ≡ true → o ≡ p
-same_label E tells None None is = refl
-same_label E tells None (Some y) is = absurd cc
-same_label E tells (Some x) None is = absurd cc
-same_label E tells (Some x) (Some y) is = ap Some (tells x y is)
+same_label E statement None None is = refl
+same_label E statement None (Some y) is = absurd cc
+same_label E statement (Some x) None is = absurd cc
+same_label E statement (Some x) (Some y) is = ap Some (statement x y is)
 
 label_itself : (E : LinkId → LinkId → Bool) → ((x : LinkId) → E x x ≡ true) → (o : Option LinkId) → option_eq E o o ≡ true
 label_itself E itself None = refl
@@ -59,13 +59,14 @@ no_less : (w v : ℤ) → int_lt w v ≡ false → v ≤ℤ w
 no_less w v test = grind (arith, ints)
 
 -- ---- whether an edge is below every node of its key
-pub below_or_held : (nodes : List Node) (edge : Edge) (id : NodeId) (node : Node) → IsNodeOf nodes (key_of edge) id → node_at nodes id ≡ Some node → (b : Bool) → b ≡ int_lt edge.weight node.edge.weight → MatchBool b (IsBelowAll nodes edge) (IsHeld nodes edge)
+pub below_or_held : (nodes : List Node) (edge : Edge) (id : NodeId) (node : Node) → IsNodeOf nodes (key_of edge) id → node_at nodes id ≡ Some node → (b : Bool) → b ≡ int_lt edge.weight node.edge.weight
+    → MatchBool b (IsBelowAll nodes edge) (HasNodeAtMost nodes edge)
 below_or_held nodes edge id node was here b is = by b is
   where
     same : was.node ≡ node
     same = let both : Some was.node ≡ Some node = sym was.here ∙ here in cc
 
-    by : (b : Bool) → b ≡ int_lt edge.weight node.edge.weight → MatchBool b (IsBelowAll nodes edge) (IsHeld nodes edge)
+    by : (b : Bool) → b ≡ int_lt edge.weight node.edge.weight → MatchBool b (IsBelowAll nodes edge) (HasNodeAtMost nodes edge)
     by true is' = λ other m there of_key.
         let least : was.node.edge.weight ≤ℤ m.edge.weight = was.least other m there of_key in
         let weight : was.node.edge.weight ≡ node.edge.weight = ap (λ (n : Node). n.edge.weight) same in
@@ -91,7 +92,7 @@ keys_apart one other test same =
 -- ---- one node more
 module _ (nodes : List Node) (node : Node) (numbers : Numbers) (held : NumbersNodes nodes numbers) where
   -- one that is not below all of its key
-  pub numbers_held : (after : Numbers) → AreSame numbers after → IsHeld nodes node.edge → (all : List Node) → all ≡ nodes ++ node ∷ [] → NumbersNodes all after
+  pub numbers_held : (after : Numbers) → AreSame numbers after → HasNodeAtMost nodes node.edge → (all : List Node) → all ≡ nodes ++ node ∷ [] → NumbersNodes all after
   numbers_held after same below all is key =
       subst (λ (ns : List Node). IsNewest ns key (number_of after key)) (sym is)
       (subst (λ o. IsNewest (nodes ++ node ∷ []) key o) (sym (same key)) (by (number_of numbers key) (held key)))
@@ -130,8 +131,8 @@ zero_at (suc n) zero = refl
 zero_at (suc n) (suc place) = zero_at n place
 
 pub none_counted : (numbers : Numbers) (n : ℕ) → numbers.ordinary.counted ≡ replicate n 0 → IsEmpty numbers.others → IsWithout numbers
-none_counted numbers n zeros empty = λ key. by key (place_in numbers.ordinary.points key)
+none_counted numbers n zeros empty = λ key. by key (dense_place numbers.ordinary.points key)
   where
     by : (key : Key) (place : Option ℕ) → number_at numbers key place ≡ None
     by key None = search
-    by key (Some place) = ap told (ap (λ (counted : List ℕ). slice_index_or counted place 0) zeros ∙ zero_at n place)
+    by key (Some place) = ap recorded (ap (λ (counted : List ℕ). slice_index_or counted place 0) zeros ∙ zero_at n place)

@@ -15,10 +15,10 @@ use Rattle.closure_model.specs.Tables.{Graph, lowered, table_of, no_edges, base_
 use Rattle.closure_model.specs.Derivations.{Support, edges_of_nodes, with_node, base_nodes, base_support}
 use Rattle.closure_model.specs.declared.derivation.Node.{Node}
 use Rattle.closure_model.proofs.TableLemmas.{lowered-shape, all_lowered-shape}
-use Rattle.closure_model.proofs.Made.{given_within}
-use Rattle.closure_model.proofs.Standing.{base_stands, base_given}
+use Rattle.closure_model.proofs.DerivedNodes.{given_within}
+use Rattle.closure_model.proofs.SupportLemmas.{law_base_stands, base_given}
 use Rattle.std.proofs.lemmas.List.Sums.{fold-append}
-use Rattle.derivation_dag.specs.Supported.{IsSupported}
+use Rattle.derivation_dag.specs.SupportedTables.{IsSupported}
 
 -- ---- an edge of the network is of a key that there is
 label_at : (net : Plan) (edge : Edge) (label : Option LinkId) → IsLabelled net edge label → IsLabelAt (shape_of net) edge.to label
@@ -50,6 +50,6 @@ supported_more support node supported within = record {
 
 pub base_supported : (net : Plan) → IsPlan net → IsSupported (base_support net)
 base_supported net plan = record {
-  tabled = (base_stands net).table ∙ ap (λ shape. table_of shape (edges_of_nodes (base_nodes net))) (sym (all_lowered-shape (no_edges (shape_of net)) (base_edges net)));
+  tabled = (law_base_stands net).table ∙ ap (λ shape. table_of shape (edges_of_nodes (base_nodes net))) (sym (all_lowered-shape (no_edges (shape_of net)) (base_edges net)));
   weights = λ k d inside. given_within net plan [] (All-nil (λ (n : Node). IsWeight n.edge.weight)) (get_or (base_nodes net) k d) (base_given net [] (get_or (base_nodes net) k d) (Contains-get_or (base_nodes net) k d inside));
 }

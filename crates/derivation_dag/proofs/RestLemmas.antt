@@ -12,10 +12,10 @@ use Rattle.closure_model.specs.declared.derivation.Item.{Item}
 use Rattle.closure_model.specs.declared.derivation.Node.{Node}
 use Rattle.closure_model.specs.declared.derivation.NodeId.{NodeId}
 use Rattle.closure_model.proofs.Lists.{any_is, any_from}
-use Rattle.closure_model.proofs.Made.{rests_cases, rests_by, rests_itself}
+use Rattle.closure_model.proofs.DerivedNodes.{rests_cases, rests_by, rests_itself}
 use Rattle.derivation_dag.specs.Marks.{mark_of, IsMarked, marks_premise}
 
--- the first nodes are marked where they rest on the item
+-- the first nodes are marked if they rest on the item
 pub record Rested (nodes : List Node) (what : Item) (rests : List Bool) (n : ℕ) : Type 0 where
   pub size : length rests ≡ n
   pub each : (id : NodeId) → id.0 < n → IsMarked rests id ↔ RestsOn nodes id what
@@ -33,7 +33,7 @@ module _ (nodes : List Node) (what : Item) (rests : List Bool) (n : ℕ) (node :
   pub premises_marked : All (λ (premise : NodeId). premise.0 < length rests) (premises_of node.rule)
   premises_marked = All-weaker (λ (p : NodeId). p.0 < n) (λ (p : NodeId). p.0 < length rests) (λ p below. let size : length rests ≡ n = before.size in omega arith) (premises_of node.rule) (earlier (record { 0 = n }) node here)
 
-  -- the node rests on the item exactly where its rule uses it or a premise is marked
+  -- the node rests on the item exactly if its rule uses it or a premise is marked
   rests_from : (item_of node.rule ≡ Some what) ⊎ (marks_premise rests node.rule ≡ true) → RestsOn nodes (record { 0 = n }) what
   rests_from (inl uses) = rests_itself nodes (record { 0 = n }) node what here uses
   rests_from (inr marked) =

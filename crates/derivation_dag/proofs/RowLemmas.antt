@@ -14,24 +14,25 @@ use Rattle.closure_model.specs.declared.derivation.Node.{Node}
 use Rattle.closure_model.specs.declared.derivation.NodeId.{NodeId}
 use Rattle.closure_model.specs.declared.derivation.Rule.{Rule}
 use Rattle.closure_model.specs.declared.rows.Made.{Made}
-use Rattle.closure_model.proofs.Made.{given_within}
-use Rattle.labelled_graph.specs.Merging.{AreMadeFor}
+use Rattle.closure_model.proofs.DerivedNodes.{given_within}
+use Rattle.labelled_graph.specs.MergedRows.{AreMadeFor}
 use Rattle.derivation_dag.specs.Rows.{nodes_with, with_row, CanTakeRow, HasRule, HaveRules}
-use Rattle.derivation_dag.specs.Supported.{IsSupported}
+use Rattle.derivation_dag.specs.SupportedTables.{IsSupported}
 use Rattle.derivation_dag.proofs.PlainLemmas.{key_of_edge, supported_more}
 
 pub node_comes : (net : Plan) (nodes : List Node) (one : Made) (first : Option NodeId) (has : HasRule net nodes one first) → nodes_with nodes one first ≡ nodes ++ record { rule = has.rule; edge = one.edge } ∷ []
 node_comes net nodes one first has = ap (λ (o : Option Rule). option_map_or (λ rule. nodes ++ record { rule = rule; edge = one.edge } ∷ []) o nodes) has.is
 
 -- ---- one edge after another
--- where an edge is left, a node for its first premise is
+-- if an edge is left, a node for its first premise is
 pub none_without : (net : Plan) (nodes : List Node) (made : List Made) (i : ℕ) (firsts : List (Option NodeId)) → i < length made → length firsts ≡ 0 → HaveRules net nodes (drop i made) firsts → ⊥
 none_without net nodes [] i firsts inside none have = absurd (omega (arith, inside))
 none_without net nodes (one ∷ made) i [] inside none have = subst (λ (ones : List Made). HaveRules net nodes ones []) (drop_more (one ∷ made) i one inside) have
 none_without net nodes (one ∷ made) i (first ∷ firsts) inside none have = absurd (omega (arith, none))
 
 -- ---- all of them
-rules_within : (net : Plan) → IsPlan net → (nodes : List Node) → All (λ (node : Node). IsWeight node.edge.weight) nodes → (table : Graph) (made : List Made) (firsts : List (Option NodeId)) → IsSupported (record { nodes = nodes; table = table }) → HaveRules net nodes made firsts
+rules_within : (net : Plan) → IsPlan net → (nodes : List Node) → All (λ (node : Node). IsWeight node.edge.weight) nodes → (table : Graph) (made : List Made) (firsts : List (Option NodeId))
+    → IsSupported (record { nodes = nodes; table = table }) → HaveRules net nodes made firsts
     → All (λ (one : Made). IsWeight one.edge.weight) made × IsSupported (with_row (record { nodes = nodes; table = table }) made firsts)
 rules_within net plan nodes weights table [] firsts supported have = (All-nil (λ (one : Made). IsWeight one.edge.weight), supported)
 rules_within net plan nodes weights table (one ∷ made) [] supported have = absurd have
@@ -51,7 +52,7 @@ made_for net plan support to made firsts supported can = record {
   target = can.target;
   ends = can.ends;
   edges = λ k d inside. (subst (λ (s : Shape). IsKey s (key_of (get_or made k d).edge)) (sym can.for_network) (key_of_edge net (get_or made k d).edge (can.edges k d inside)), weights k d inside);
-  falls = can.falls;
+  descends = can.descends;
 }
   where
     weights : All (λ (one : Made). IsWeight one.edge.weight) made

@@ -1,6 +1,6 @@
 pub mod Marks
 pub mod Numbers
 pub mod Places
-pub mod Supported
+pub mod SupportedTables
 pub mod SupportCode
 pub mod Rows

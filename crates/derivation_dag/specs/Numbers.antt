@@ -7,7 +7,7 @@ use Rattle.closure_model.specs.Keys.{Key, key_of}
 use Rattle.closure_model.specs.Derivations.{node_at, IsNodeOf, IsNewest}
 use Rattle.closure_model.specs.declared.derivation.Node.{Node}
 use Rattle.closure_model.specs.declared.derivation.NodeId.{NodeId}
-use Rattle.derivation_dag.specs.Places.{place_in, told}
+use Rattle.derivation_dag.specs.Places.{dense_place, recorded}
 use Rattle.derivation_dag.specs.declared.key.EdgeKey.{EdgeKey}
 use Rattle.derivation_dag.specs.declared.numbers.Numbers.{Numbers}
 use Rattle.derivation_dag.specs.contracts.key.EdgeKeyPartialEq.TheImpl as edge_key_eq
@@ -23,11 +23,11 @@ edge_key key = record { to = key.to; from = key.from; label = key.label }
 -- the number of a key that has this place, or none
 abbrev pub number_at : Numbers → Key → Option ℕ → Option NodeId
 number_at numbers key None = get same_edge_key numbers.others (edge_key key)
-number_at numbers key (Some place) = told (slice_index_or numbers.ordinary.counted place 0)
+number_at numbers key (Some place) = recorded (slice_index_or numbers.ordinary.counted place 0)
 
 -- the number of a key
 abbrev pub number_of : Numbers → Key → Option NodeId
-number_of numbers key = number_at numbers key (place_in numbers.ordinary.points key)
+number_of numbers key = number_at numbers key (dense_place numbers.ordinary.points key)
 
 -- no key has a number
 abbrev pub IsWithout : Numbers → Type 0
@@ -38,8 +38,8 @@ abbrev pub AreSame : Numbers → Numbers → Type 0
 AreSame before after = (key : Key) → number_of after key ≡ number_of before key
 
 -- a number can be set for a key
-abbrev pub HasRoom : Numbers → Key → Type 0
-HasRoom numbers key = MatchOption (place_in numbers.ordinary.points key) (0 < spare numbers.others) (λ _. Unit {0})
+abbrev pub HasCapacity : Numbers → Key → Type 0
+HasCapacity numbers key = MatchOption (dense_place numbers.ordinary.points key) (0 < spare numbers.others) (λ _. Unit {0})
 
 -- each key of a list has the number of its node
 abbrev pub NumbersNodes : List Node → Numbers → Type 0
@@ -50,7 +50,7 @@ abbrev pub IsBelowAll : List Node → Edge → Type 0
 IsBelowAll nodes edge = (other : NodeId) (node : Node) → node_at nodes other ≡ Some node → key_of node.edge ≡ key_of edge → edge.weight <ℤ node.edge.weight
 
 -- a node of the key of an edge is not above it
-pub record IsHeld (nodes : List Node) (edge : Edge) : Type 0 where
+pub record HasNodeAtMost (nodes : List Node) (edge : Edge) : Type 0 where
   pub id : NodeId
   pub of_key : IsNodeOf nodes (key_of edge) id
   pub less : of_key.node.edge.weight ≤ℤ edge.weight

@@ -9,10 +9,10 @@ pub record Counted : Type 0 where
   pub counted : List ℕ
 
 -- the place of a key, if it is an ordinary one between so many points
-abbrev pub place_in : ℕ → Key → Option ℕ
-place_in points key = if is_some key.label || nat_le points key.from.0 || nat_le points key.to.0 then None else Some (key.to.0 * points + key.from.0)
+abbrev pub dense_place : ℕ → Key → Option ℕ
+dense_place points key = if is_some key.label || nat_le points key.from.0 || nat_le points key.to.0 then None else Some (key.to.0 * points + key.from.0)
 
 -- a number that is counted from 1, or none for 0
-abbrev pub told : ℕ → Option NodeId
-told zero = None
-told (suc n) = Some (record { 0 = n })
+abbrev pub recorded : ℕ → Option NodeId
+recorded zero = None
+recorded (suc n) = Some (record { 0 = n })

@@ -17,7 +17,7 @@ use Rattle.closure_model.specs.declared.rows.Made.{Made}
 use Rattle.closure_model.specs.declared.rows.Why.{Why}
 use Rattle.closure_model.specs.declared.rows.Why.TheVariants.{No, Up, Low, Cross, Drop}
 
--- the rule of a new node, where its first premise has a node: the premise in the row is the node that its key now has
+-- the rule of a new node, if its first premise has a node: the premise in the row is the node that its key now has
 abbrev pub rule_with : List Node → Option NodeId → Why → Option Rule
 rule_with now first (No one second) = option_and_then (λ id. option_map (by_rule.No id) (node_for now second)) first
 rule_with now first (Up one second) = option_and_then (λ id. option_map (by_rule.Up id) (node_for now second)) first
@@ -54,7 +54,7 @@ pub record CanTakeRow (net : Plan) (support : Support) (to : PointId) (made : Li
   pub target : to.0 < support.table.shape.points
   pub ends : All (λ (one : Made). one.edge.to ≡ to) made
   pub edges : All (λ (one : Made). IsEdge net one.edge) made
-  pub falls : All (λ (one : Made). IsBelow support.table one.edge) made
+  pub descends : All (λ (one : Made). IsBelow support.table one.edge) made
   pub rules : HaveRules net support.nodes made firsts
 
 -- what supports the table when the edges that a row made have their nodes

@@ -7,6 +7,7 @@ use Rattle.closure_model.specs.Tables.{Graph}
 use Rattle.closure_model.specs.declared.derivation.Node.{Node}
 use Rattle.closure_model.specs.contracts.derivation.Node as node
 
+-- a list with a table as data
 abbrev pub support_code : Coded Support
 support_code =
     code_by (List Node × Graph) (coded× (coded_list node.the_row.coded) graph_code) (λ support. (support.nodes, support.table))

@@ -1,4 +1,4 @@
-//! The nodes under given ones.
+//! The ancestors of given nodes: all on which they rest.
 
 ghost use Rattle.std.specs.Prelude.{◌≡◌, ◌<◌, length, IfOk, List, false, replicate};
 ghost use Rattle.std.specs.List.{All};
@@ -10,12 +10,13 @@ use crate::premises::mark_premises;
 use closure_model::{Node, NodeId};
 use std::alloc::{AllocError, Global};
 
-/// Marks the given nodes and all that stands under them, where none is marked before.
+/// Marks the given nodes and all that stands under them; none is marked before.
 pub(crate) fn mark_ancestors(nodes: &[Node], ids: &[NodeId], marks: &mut [bool])
     requires earlier { PremisesStandEarlier nodes.now }
     requires none { marks.old ≡ replicate (length nodes.now) false }
     requires within { All (λ id. id.0 < length nodes.now) ids.now }
-    ensures { (found : List NodeId) → AreMarked marks.new found → AreAncestors nodes.now ids.now found }
+    ensures { (found : List NodeId) → AreMarked marks.new found
+        → AreAncestors nodes.now ids.now found }
 {
     mark_all(marks, ids);
     mark_under(nodes, marks);
@@ -31,12 +32,15 @@ fn mark_all(marks: &mut [bool], ids: &[NodeId])
     }
 }
 
-/// Marks what stands under the marked nodes. From the last node to the first, since premises stand earlier.
+/// Marks what stands under the marked nodes. From the last node to the first, since premises stand
+/// earlier.
 fn mark_under(nodes: &[Node], marks: &mut [bool])
     requires earlier { PremisesStandEarlier nodes.now }
     requires size { length marks.old ≡ length nodes.now }
-    ensures under { (id : NodeId) → IsMarked marks.new id → (top : NodeId) × IsMarked marks.old top × IsUnder nodes.now id top }
-    ensures whole { (id top : NodeId) → IsMarked marks.old top → IsUnder nodes.now id top → IsMarked marks.new id }
+    ensures under { (id : NodeId) → IsMarked marks.new id → (top : NodeId) × IsMarked marks.old top
+        × IsUnder nodes.now id top }
+    ensures whole { (id top : NodeId) → IsMarked marks.old top → IsUnder nodes.now id top
+        → IsMarked marks.new id }
 {
     let mut place = nodes.len();
     while place > 0 {

@@ -1,9 +1,12 @@
-ghost use Rattle.std.specs.Prelude.{◌≡◌, ◌<◌, ◌↔◌, [], ◌∷◌, ◌++◌, length, Some, IsTrue, IfOk, OnErr};
+//! A derivation list: nodes in the order of making.
+
+ghost use Rattle.std.specs.Prelude.{◌≡◌, ◌<◌, ◌↔◌, [], ◌∷◌, ◌++◌, length, Some, IsTrue, IfOk};
+ghost use Rattle.std.specs.Prelude.{OnErr};
 ghost use Rattle.std.specs.List.{All};
 ghost use Rattle.closure_model.specs.Derivations.{node_at, IsGiven, AreAncestors, RestsOn};
 
 use crate::ancestors::{mark_ancestors, marked};
-use crate::resting::resting_marks;
+use crate::rest_marks::resting_marks;
 use closure_model::{Item, Node, NodeId};
 use net_model::Network;
 use std::alloc::{AllocError, Global};
@@ -13,8 +16,9 @@ use std::mem::size_of;
 // A node takes 48 bytes.
 const _: () = prove!(size_of::<Node>() == 48);
 
-/// A derivation list (Morris and Muscettola 2005, in this project's form): nodes in the order of making, each from nodes that
-/// stand earlier. Contracts see it as the list of its nodes. It has no limit of its own. A node takes 48 bytes.
+/// A derivation list (Morris and Muscettola 2005, in this project's form): nodes in the order of
+/// making, each from nodes that stand earlier. Contracts see it as the list of its nodes. It has no
+/// limit of its own. A node takes 48 bytes.
 #[derive(Debug, Drop)]
 pub struct Dag {
     nodes: Vec<Node>,
@@ -48,11 +52,13 @@ impl Dag {
         *self.nodes.allocator()
     }
 
-    /// Puts a node at the end of the list, and gives its number. Its premises are nodes of the list, and its rule gives its edge
-    /// from them in the network. `AllocError` comes only for want of memory, and changes nothing.
+    /// Puts a node at the end of the list, and gives its number. Its premises are nodes of the
+    /// list, and its rule gives its edge from them in the network. `AllocError` comes only for want
+    /// of memory, and changes nothing.
     pub fn push(&mut self, net: &Network, node: Node) -> Result<NodeId, AllocError>
         requires { IsGiven net.now self.old node }
-        ensures pushed { IfOk result (λ id. (id.0 ≡ length self.old) × (self.new ≡ self.old ++ node ∷ [])) }
+        ensures pushed { IfOk result (λ id. (id.0 ≡ length self.old)
+            × (self.new ≡ self.old ++ node ∷ [])) }
         ensures refused { OnErr result (self.new ≡ self.old) }
     {
         let _ = net;
@@ -76,8 +82,8 @@ impl Dag {
         self.nodes.len() as u64
     }
 
-    /// The given nodes of the list and all on which they rest, in order of making, each once. `AllocError` comes only for want
-    /// of memory.
+    /// The given nodes of the list and all on which they rest, in order of making, each once.
+    /// `AllocError` comes only for want of memory.
     pub fn ancestors(&self, alloc: Global, ids: &[NodeId]) -> Result<Vec<NodeId>, AllocError>
         requires { All (λ id. id.0 < length self.now) ids.now }
         ensures { IfOk result (λ found. AreAncestors self.now ids.now found.items) }
@@ -88,8 +94,8 @@ impl Dag {
         marked(alloc, marks.as_slice())
     }
 
-    /// Whether a node of the list rests on a bound or a link: it or a node under it uses it. `AllocError` comes only for want of
-    /// memory.
+    /// Whether a node of the list rests on a bound or a link: it or a node under it uses it.
+    /// `AllocError` comes only for want of memory.
     pub fn rests_on(&self, alloc: Global, id: NodeId, item: Item) -> Result<bool, AllocError>
         requires { id.0 < length self.now }
         ensures { IfOk result (λ rests. IsTrue rests ↔ RestsOn self.now id item) }

@@ -1,3 +1,5 @@
+//! The key of an edge, as the key of a hash map.
+
 ghost use Rattle.std.specs.Prelude.{◌≡◌};
 
 use net_model::{Edge, LinkId, PointId};

@@ -1,16 +1,16 @@
-//! Derivation lists: edges in the order of making, each with its rule and its premises; and stores of derivations, which have the
-//! table of their edges besides.
+//! Derivation lists: edges in the order of making, each with its rule and its premises; and stores
+//! of derivations, which have the table of their edges besides.
 #![tactic(auto)]
 
 mod ancestors;
 mod dag;
 mod key;
-mod keyed;
-mod made;
+mod keyed_dag;
+mod made_nodes;
 mod numbers;
 mod plain;
 mod premises;
-mod resting;
+mod rest_marks;
 mod square;
 mod supports;
 

@@ -1,9 +1,9 @@
-//! The numbers of nodes, by the keys of their edges.
+//! The numbers of nodes by the keys of their edges: in a square, or found by hash.
 
 ghost use Rattle.std.specs.Prelude.{◌≡◌, ◌≢◌, ◌<◌, IfOk, OnOk};
 ghost use Rattle.closure_model.specs.Keys.{Key, key_of};
-ghost use Rattle.derivation_dag.specs.Places.{told};
-ghost use Rattle.derivation_dag.specs.Numbers.{number_of, AreSame, HasRoom, IsWithout};
+ghost use Rattle.derivation_dag.specs.Places.{recorded};
+ghost use Rattle.derivation_dag.specs.Numbers.{number_of, AreSame, HasCapacity, IsWithout};
 
 use crate::key::EdgeKey;
 use crate::square::Square;
@@ -12,8 +12,8 @@ use net_model::Edge;
 use std::alloc::{AllocError, Global};
 use std::collections::HashMap;
 
-/// A number of a node for each key that has one. An ordinary key between the points for which it is made has a place of its own; any
-/// other is found by its hash.
+/// A number of a node for each key that has one. An ordinary key between the points for which it is
+/// made has a place of its own; any other is found by its hash.
 #[derive(Debug, Drop)]
 pub(crate) struct Numbers {
     ordinary: Square,
@@ -31,7 +31,8 @@ impl Numbers {
         }
     }
 
-    /// No numbers, with places for ordinary keys between so many points. `AllocError` comes only for want of memory.
+    /// No numbers, with places for ordinary keys between so many points. `AllocError` comes only
+    /// for want of memory.
     pub(crate) fn of(alloc: Global, points: u32) -> Result<Numbers, AllocError>
         ensures { IfOk result IsWithout }
     {
@@ -51,10 +52,11 @@ impl Numbers {
         }
     }
 
-    /// Makes room for the number of the key of an edge. No number changes. `AllocError` comes only for want of memory.
+    /// Reserves capacity for the number of the key of an edge. No number changes. `AllocError`
+    /// comes only for want of memory.
     pub(crate) fn reserve(&mut self, edge: &Edge) -> Result<(), AllocError>
         ensures same { AreSame self.old self.new }
-        ensures room { OnOk result (HasRoom self.new (key_of edge.now)) }
+        ensures spare_capacity { OnOk result (HasCapacity self.new (key_of edge.now)) }
     {
         if self.ordinary.place_of(edge).is_none() {
             self.others.reserve(1)?;
@@ -62,12 +64,14 @@ impl Numbers {
         Ok(())
     }
 
-    /// Sets the number of the key of an edge, which is given counted from 1. There is room for it.
+    /// Sets the number of the key of an edge, which is given counted from 1. There is capacity for
+    /// it.
     pub(crate) fn put(&mut self, edge: &Edge, counted: u64)
-        requires room { HasRoom self.old (key_of edge.now) }
+        requires spare_capacity { HasCapacity self.old (key_of edge.now) }
         requires some { 0 < counted }
-        ensures here { number_of self.new (key_of edge.now) ≡ told counted }
-        ensures others { (key : Key) → key ≢ key_of edge.now → number_of self.new key ≡ number_of self.old key }
+        ensures here { number_of self.new (key_of edge.now) ≡ recorded counted }
+        ensures others { (key : Key) → key ≢ key_of edge.now
+            → number_of self.new key ≡ number_of self.old key }
     {
         match self.ordinary.place_of(edge) {
             Some(place) => self.ordinary.set(place, counted),

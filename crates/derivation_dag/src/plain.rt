@@ -1,17 +1,20 @@
+//! A derivation list with the table of the least edges of its nodes.
+
 ghost use Rattle.std.specs.Prelude.{◌≡◌, ◌++◌, [], length, map, IfOk, OnOk, ◌≤◌, unsigned_abs};
 ghost use Rattle.std.specs.List.{enumerate_from};
 ghost use Rattle.net_model.specs.Edges.{IsEdge};
 ghost use Rattle.net_model.specs.Limits.{most_size, IsWeight};
 ghost use Rattle.closure_model.specs.Keys.{key_of, IsKey};
 ghost use Rattle.closure_model.specs.Tables.{no_edges, IsFor};
-ghost use Rattle.closure_model.specs.Derivations.{base_support, bound_node, link_node, with_node, IsGiven, StandsOn};
-ghost use Rattle.labelled_graph.specs.Merging.{no_shape};
+ghost use Rattle.closure_model.specs.Derivations.{base_support, bound_node, link_node, with_node};
+ghost use Rattle.closure_model.specs.Derivations.{IsGiven, StandsOn};
+ghost use Rattle.labelled_graph.specs.MergedRows.{no_shape};
 ghost use Rattle.derivation_dag.specs.Rows.{CanTakeRow, with_row};
-ghost use Rattle.derivation_dag.specs.Supported.{no_support, IsSupported};
+ghost use Rattle.derivation_dag.specs.SupportedTables.{no_support, IsSupported};
 
 use crate::dag::Dag;
-use crate::keyed::KeyedDag;
-use crate::made::push_row;
+use crate::keyed_dag::KeyedDag;
+use crate::made_nodes::push_row;
 use crate::supports::{MadeRow, Supports};
 use closure_model::{Node, NodeId, Rule};
 use labelled_graph::Table;
@@ -19,8 +22,8 @@ use net_model::{Bound, BoundId, Edge, Link, LinkId, Network, bound_edge, link_ed
 use std::alloc::{AllocError, Global};
 use std::marker::Model;
 
-/// A derivation list with the table of the least edges of its nodes, and no more: nothing is ever taken away from it. Contracts see
-/// it as the list and the table.
+/// A derivation list with the table of the least edges of its nodes, and no more: nothing is ever
+/// taken away from it. Contracts see it as the list and the table.
 #[derive(Debug, Drop)]
 pub struct Plain {
     list: KeyedDag,
@@ -35,7 +38,7 @@ impl Model for Plain {
 
     ghost coded = { support_code };
 
-    ghost use Rattle.derivation_dag.specs.Supported.{IsSupported};
+    ghost use Rattle.derivation_dag.specs.SupportedTables.{IsSupported};
 
     ghost view = { λ plain. record { nodes = plain.list; table = plain.table } };
 
@@ -43,8 +46,9 @@ impl Model for Plain {
 }
 
 impl Plain {
-    /// The base nodes and the base table of a network: one node for each bound and then one for each link, each in order. They stand
-    /// on the network. `AllocError` comes only for want of memory.
+    /// The base nodes and the base table of a network: one node for each bound and then one for
+    /// each link, each in order. They stand on the network. `AllocError` comes only for want of
+    /// memory.
     pub fn of(alloc: Global, net: &Network) -> Result<Plain, AllocError>
         ensures base { IfOk result (λ plain. plain ≡ base_support net.now) }
         ensures stands { IfOk result (StandsOn net.now) }
@@ -57,7 +61,8 @@ impl Plain {
         Ok(Plain { list, table })
     }
 
-    /// The list without nodes, with the table of a network without edges. `AllocError` comes only for want of memory.
+    /// The list without nodes, with the table of a network without edges. `AllocError` comes only
+    /// for want of memory.
     pub fn without_nodes(alloc: Global, net: &Network) -> Result<Plain, AllocError>
         ensures { IfOk result (λ plain. plain ≡ no_support net.now) }
     {
@@ -66,13 +71,15 @@ impl Plain {
         Ok(Plain { list, table })
     }
 
-    /// Puts a node at the end of the list and its edge into the table, as `accept` does, also where the table has as little for its key
-    /// already. `AllocError` comes only for want of memory; then the store is lost, and the caller drops it.
+    /// Puts a node at the end of the list and its edge into the table, as `accept` does, also if
+    /// the table has as little for its key already. `AllocError` comes only for want of memory;
+    /// then the store is lost, and the caller drops it.
     pub fn add(&mut self, net: &Network, node: Node) -> Result<NodeId, AllocError>
         requires for_network { IsFor net.now self.old.table }
         requires edge { IsEdge net.now node.edge }
         requires follows { IsGiven net.now self.old.nodes node }
-        ensures { IfOk result (λ id. (id.0 ≡ length self.old.nodes) × (self.new ≡ with_node self.old node)) }
+        ensures { IfOk result (λ id. (id.0 ≡ length self.old.nodes)
+            × (self.new ≡ with_node self.old node)) }
     {
         net.sound();
         match take_node(net, &mut self.list, &mut self.table, node) {
@@ -129,7 +136,9 @@ fn take_node(
     requires follows { IsGiven net.now list.old node }
     requires key { IsKey table.old.shape (key_of node.edge) }
     requires weight { IsWeight node.edge.weight }
-    ensures { IfOk result (λ id. (id.0 ≡ length list.old) × (record { nodes = list.new; table = table.new } ≡ with_node (record { nodes = list.old; table = table.old }) node)) }
+    ensures { IfOk result (λ id. (id.0 ≡ length list.old)
+        × (record { nodes = list.new; table = table.new } ≡ with_node
+        (record { nodes = list.old; table = table.old }) node)) }
 {
     let edge = node.edge;
     let id = list.push(net, node)?;
@@ -137,7 +146,8 @@ fn take_node(
     Ok(id)
 }
 
-/// Empties a list and a table: after a failure the list may have nodes whose edges are not in the table.
+/// Empties a list and a table: after a failure the list may have nodes whose edges are not in the
+/// table.
 fn lose(list: &mut KeyedDag, table: &mut Table)
     ensures list { list.new ≡ [] }
     ensures table { table.new ≡ no_edges no_shape }
@@ -155,8 +165,10 @@ fn take_row(
     row: &MadeRow<'_>,
 ) -> Result<(), AllocError>
     requires supported { IsSupported (record { nodes = list.old; table = table.old }) }
-    requires row { CanTakeRow net.now (record { nodes = list.old; table = table.old }) row.now.target row.now.made.now row.now.firsts.now }
-    ensures { OnOk result (record { nodes = list.new; table = table.new } ≡ with_row (record { nodes = list.old; table = table.old }) row.now.made.now row.now.firsts.now) }
+    requires row { CanTakeRow net.now (record { nodes = list.old; table = table.old })
+        row.now.target row.now.made.now row.now.firsts.now }
+    ensures { OnOk result (record { nodes = list.new; table = table.new } ≡ with_row
+        (record { nodes = list.old; table = table.old }) row.now.made.now row.now.firsts.now) }
 {
     net.sound();
     push_row(net, list, row)?;
@@ -164,7 +176,8 @@ fn take_row(
 }
 
 fn push_bounds(list: &mut KeyedDag, net: &Network) -> Result<(), AllocError>
-    ensures { OnOk result (list.new ≡ list.old ++ map bound_node (enumerate_from 0 net.now.bounds)) }
+    ensures { OnOk result (list.new ≡ list.old ++ map bound_node
+        (enumerate_from 0 net.now.bounds)) }
 {
     for (place, bound) in net.bounds().iter().enumerate() {
         list.push(net, bound_node(BoundId(place as u32), bound))?;
@@ -191,7 +204,8 @@ pub fn bound_node(id: BoundId, bound: &Bound) -> Node
     }
 }
 
-/// The base node of a link, which has this number. The link has a longest duration that a network may have.
+/// The base node of a link, which has this number. The link has a longest duration that a network
+/// may have.
 pub fn link_node(id: LinkId, link: &Link) -> Node
     requires { unsigned_abs link.now.high ≤ most_size }
     ensures { result ≡ link_node (id.0, link.now) }

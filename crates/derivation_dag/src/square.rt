@@ -1,16 +1,18 @@
 //! A number for each ordinary key between some points, each at its place.
 
-ghost use Rattle.std.specs.Prelude.{◌≡◌, ◌<◌, [], length, slice_index_or, slice_set, IfOk, IfSome, replicate, ◌*◌};
+ghost use Rattle.std.specs.Prelude.{◌≡◌, ◌<◌, [], length, slice_index_or, slice_set, IfOk, IfSome};
+ghost use Rattle.std.specs.Prelude.{replicate, ◌*◌};
 ghost use Rattle.closure_model.specs.Keys.{key_of};
-ghost use Rattle.derivation_dag.specs.Places.{place_in, told};
+ghost use Rattle.derivation_dag.specs.Places.{dense_place, recorded};
 
 use closure_model::NodeId;
 use net_model::Edge;
 use std::alloc::{AllocError, Global};
 use std::marker::Model;
 
-/// The numbers of nodes by the places of ordinary keys between so many points, in the order of their targets and then of their sources,
-/// in 8 bytes each. A number is counted from 1, and 0 stands where there is none.
+/// The numbers of nodes by the places of ordinary keys between so many points, in the order of
+/// their targets and then of their sources, in 8 bytes each. A number is counted from 1, and 0
+/// stands where there is none.
 #[derive(Debug, Drop)]
 pub(crate) struct Square {
     points: u32,
@@ -49,7 +51,7 @@ impl Square {
 
     /// The place of the key of an edge, if it is an ordinary one between the points.
     pub(crate) fn place_of(&self, edge: &Edge) -> Option<usize>
-        ensures place { result ≡ place_in self.now.points (key_of edge.now) }
+        ensures place { result ≡ dense_place self.now.points (key_of edge.now) }
         ensures inside { IfSome result (λ place. place < length self.now.counted) }
     {
         let (from, to) = (edge.from.0, edge.to.0);
@@ -62,23 +64,26 @@ impl Square {
     /// The number at a place, if it has one.
     pub(crate) fn get(&self, place: usize) -> Option<NodeId>
         requires { place < length self.now.counted }
-        ensures { result ≡ told (slice_index_or self.now.counted place 0) }
+        ensures { result ≡ recorded (slice_index_or self.now.counted place 0) }
     {
-        told(self.counted[place])
+        recorded(self.counted[place])
     }
 
     /// Sets the number at a place, which is given counted from 1.
     pub(crate) fn set(&mut self, place: usize, counted: u64)
         requires { place < length self.old.counted }
-        ensures { self.new ≡ record self.old { counted = slice_set self.old.counted place counted } }
+        ensures { self.new ≡ record self.old {
+          counted =
+              slice_set self.old.counted place counted;
+        } }
     {
         self.counted[place] = counted;
     }
 }
 
 /// The number that is counted from 1, or none for 0.
-fn told(counted: u64) -> Option<NodeId>
-    ensures { result ≡ told counted }
+fn recorded(counted: u64) -> Option<NodeId>
+    ensures { result ≡ recorded counted }
 {
     if counted == 0 {
         None

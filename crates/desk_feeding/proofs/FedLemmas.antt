@@ -4,8 +4,8 @@ use Rattle.std.specs.List.{All}
 use Rattle.std.proofs.lemmas.List.Sorted.{All-permutation}
 use Rattle.net_model.specs.Network.{Plan, IsPoint}
 use Rattle.net_model.specs.declared.ids.PointId.{PointId}
-use Rattle.execution_model.specs.Feeding.{Execution, IsFed}
-use Rattle.execution_model.specs.declared.feeding.Fed.{Fed}
+use Rattle.execution_model.specs.Feeds.{Execution, IsFed}
+use Rattle.execution_model.specs.declared.feed_answers.Fed.{Fed}
 use Rattle.desk_feeding.specs.Fed.{IsFedInOrder}
 use Rattle.desk_feeding.specs.Ordered.{IsInOrder}
 

@@ -1,10 +1,10 @@
--- A feeding from a desk: which seats it has, and what its room is. This project's own choice.
+-- A feeding from a desk: which seats it has, and the capacity of its buffers. This project's own choice.
 use Rattle.std.specs.Prelude.{◌≡◌, ℕ, ◌<◌, ◌≤◌, List, length}
 use Rattle.std.specs.List.{All}
-use Rattle.execution_model.specs.Feeding.{Execution, IsFed}
-use Rattle.execution_model.specs.declared.feeding.Fed.{Fed}
+use Rattle.execution_model.specs.Feeds.{Execution, IsFed}
+use Rattle.execution_model.specs.declared.feed_answers.Fed.{Fed}
 use Rattle.net_model.specs.declared.ids.PointId.{PointId}
-use Rattle.sensor_desk.specs.Desks.{DeskSeen, SeatSeen, IsSeatOf}
+use Rattle.sensor_desk.specs.Desks.{DeskSeen, DeskSeatSeen, IsSeatOfDesk}
 use Rattle.sensor_desk.specs.declared.feeder.Feeder.{Feeder}
 use Rattle.desk_feeding.specs.Ordered.{IsInOrder}
 
@@ -22,11 +22,11 @@ pub record IsFedInOrder (before : Execution) (moment : ℕ) (listed : List Point
   pub order : IsInOrder listed ordered
   pub fed : IsFed before moment ordered answer after
 
--- the seats are of the desk, there is a feeder, and there is room for what a line lists and for a point of each link
-pub record IsFeeding (desk : DeskSeen) (seat : SeatSeen) (feeders : List Feeder) (ordered links read : ℕ) : Type 0 where
-  pub seat_of : IsSeatOf desk seat
+-- the seats are of the desk, there is a feeder, and there is capacity for what a line lists and for a point of each link
+pub record IsFeeding (desk : DeskSeen) (seat : DeskSeatSeen) (feeders : List Feeder) (ordered links read : ℕ) : Type 0 where
+  pub seat_of : IsSeatOfDesk desk seat
   pub some : 0 < length feeders
-  pub feeders_of : All (λ (feeder : Feeder). IsSeatOf desk feeder.seat) feeders
-  pub ordered_room : most_listed ≤ ordered
-  pub links_room : most_listed ≤ links
-  pub read_room : length desk.about.net.value.links ≤ read
+  pub feeders_of : All (λ (feeder : Feeder). IsSeatOfDesk desk feeder.seat) feeders
+  pub ordered_capacity : most_listed ≤ ordered
+  pub links_capacity : most_listed ≤ links
+  pub read_capacity : length desk.about.net.value.links ≤ read

@@ -1,4 +1,4 @@
--- Points are gone through from the last of an order to the first: the lists of those before are whole.
+-- Points are visited from the last of an order to the first: the lists of those before are whole.
 use Rattle.std.proofs.Common.{◌≡◌, ◌≢◌, ℕ, ℤ, ◌+◌, ◌<◌, ◌≤◌, arith, Bool, true, false, List, [], ◌∷◌, length, get_or, set, Option, refl, ap, sym, subst, ◌∙◌, inl, inr}
 use Rattle.std.specs.Prelude.{◌&&◌, ◌||◌, ◌==◌, ◌+ℤ◌, int_le, int_lt, is_some, not, pos, slice_get, filter, if◌then◌else◌}
 use Rattle.std.specs.List.{Contains, list_any}
@@ -18,8 +18,8 @@ use Rattle.closure_model.proofs.Lists.{Contains-none, Contains-head, Contains-ta
 use Rattle.closure_model.proofs.OrderLemmas.{in_points}
 use Rattle.dispatch_net.specs.declared.dispatch.Conditions.{Conditions}
 use Rattle.dispatch_net.specs.Dispatchable.{with_moments, lower_bounds_in, waits_in, no_conditions, dispatchable, conditions_at}
-use Rattle.dispatch_net.specs.Held.{AreInOrder, AreEnds, AreHeld, AreOnOthers, GoDown}
-use Rattle.dispatch_net.specs.Slim.{over_point, over_link, is_bound_implied, over_end, over_wait, is_wait_implied, slim_conditions, slimmed}
+use Rattle.dispatch_net.specs.Held.{AreInOrder, AreEnds, AreHeldLists, AreOnOthers, GoDown}
+use Rattle.dispatch_net.specs.Slim.{over_point, implied_over_link, is_bound_implied, over_end, over_wait, is_wait_implied, slim_conditions, slimmed}
 use Rattle.dispatch_net.proofs.HoldLemmas.{given}
 use Rattle.dispatch_net.proofs.ExecutionLemmas.{point_count, dispatchable_length, conditions_stand}
 use Rattle.dispatch_net.proofs.SlimLists.{slim_at}
@@ -33,8 +33,8 @@ any_same f g (x ∷ xs) same = λ i. same x (Contains-head x xs) i || any_same f
 module _ (links : List Link) (lists whole : List Conditions) (c : Conditions)
     (same : (bound : PointId × ℤ) → Contains c.lower_bounds bound → conditions_at lists bound.0 ≡ conditions_at whole bound.0) where
   same_bounds : (bound : PointId × ℤ) → is_bound_implied links lists c bound ≡ is_bound_implied links whole c bound
-  same_bounds bound = any_same (λ other. over_point lists bound other || over_link links bound other) (λ other. over_point whole bound other || over_link links bound other) c.lower_bounds (λ other among.
-      ap (λ (others : Conditions). list_any (λ (inner : PointId × ℤ). inner.0.0 == bound.0.0 && int_le bound.1 (other.1 +ℤ inner.1)) others.lower_bounds || over_link links bound other) (same other among))
+  same_bounds bound = any_same (λ other. over_point lists bound other || implied_over_link links bound other) (λ other. over_point whole bound other || implied_over_link links bound other) c.lower_bounds (λ other among.
+      ap (λ (others : Conditions). list_any (λ (inner : PointId × ℤ). inner.0.0 == bound.0.0 && int_le bound.1 (other.1 +ℤ inner.1)) others.lower_bounds || implied_over_link links bound other) (same other among))
 
   same_waits : (wait : LinkId × ℤ) → is_wait_implied links lists c wait ≡ is_wait_implied links whole c wait
   same_waits wait =
@@ -56,7 +56,7 @@ slim_in_order links made c rises = record {
 }
 
 -- ---- what is written in the place of one point
-pub held_set : (links : List Link) (ends : List (Option Link)) (lists : List Conditions) (place : ℕ) (c : Conditions) → AreHeld links ends lists → AreInOrder c → AreHeld links ends (set lists place c)
+pub held_set : (links : List Link) (ends : List (Option Link)) (lists : List Conditions) (place : ℕ) (c : Conditions) → AreHeldLists links ends lists → AreInOrder c → AreHeldLists links ends (set lists place c)
 held_set links ends lists place c held rises = record {
   in_order = All-set AreInOrder lists place c rises held.in_order;
   ends_are = subst (λ n. AreEnds links n ends) (sym (length-set lists place c)) held.ends_are;
@@ -77,7 +77,7 @@ one_thinned links lists out order point all taken left others =
     ∙ (set-set lists point.0 no_conditions (slim_conditions links empty (conditions_at lists point)) ∙ ap (set lists point.0) same)
 
 -- ---- one point after another
--- from a place of the order on points are slim, the others whole
+-- from a place of the order on, the lists of points are slim; the others are whole
 pub record IsPartway (links : List Link) (whole lists : List Conditions) (order : List PointId) (from : ℕ) : Type 0 where
   pub count : length lists ≡ length whole
   pub done : (j : ℕ) (d : PointId) → from ≤ j → j < length order → conditions_at lists (get_or order j d) ≡ slim_conditions links whole (conditions_at whole (get_or order j d))
@@ -104,7 +104,7 @@ module _ (links : List Link) (whole : List Conditions) (order : List PointId) (d
     own = partway.left here (λ j e up below same. down.once i j e (omega (arith, up)) below (ap (λ (p : PointId). p.0) (get_or_default order i e d inside) ∙ sym same))
 
     before : (bound : PointId × ℤ) → Contains (conditions_at lists here).lower_bounds bound → (k : ℕ) × (k < i) × (get_or order k d ≡ bound.0)
-    before bound among = down.falls i d bound inside (subst (λ (c : Conditions). Contains c.lower_bounds bound) own among)
+    before bound among = down.descends i d bound inside (subst (λ (c : Conditions). Contains c.lower_bounds bound) own among)
 
     pub on_others : AreOnOthers order here (conditions_at lists here).lower_bounds
     on_others bound among =
@@ -171,12 +171,12 @@ module _ (net : Plan) (table : Graph) (order : List PointId) (for : IsFor net ta
     whole = λ point inside. ordered.whole point (omega (arith, inside, long));
     once = ordered.once;
     points = λ k d inside. let at = ordered.points k d inside in omega (arith, at, long);
-    falls = falls;
+    descends = descends;
   }
     where
-      falls : (i : ℕ) (d : PointId) (bound : PointId × ℤ) → i < length order → Contains (conditions_at (dispatchable net table) (get_or order i d)).lower_bounds bound
+      descends : (i : ℕ) (d : PointId) (bound : PointId × ℤ) → i < length order → Contains (conditions_at (dispatchable net table) (get_or order i d)).lower_bounds bound
           → (k : ℕ) × (k < i) × (get_or order k d ≡ bound.0)
-      falls i d bound inside among =
+      descends i d bound inside among =
           let point = get_or order i d in
           let is_point = ordered.points i d inside in
           let stands = conditions_stand net table point for (omega (arith, is_point, point_count net table for)) in
@@ -185,10 +185,10 @@ module _ (net : Plan) (table : Graph) (order : List PointId) (for : IsFor net ta
           let at_k : get_or order k d ≡ bound.0 = get_or_default order k d bound.0 below ∙ at in
           elim (cases_lt k i) [
             | inl less ↦ (k, less, at_k)
-            | inr later ↦ absurd (true≢false (sym (subst (λ p. goes table point p ≡ true) (sym at_k) goes_there) ∙ ordered.falls i k d later below))
+            | inr later ↦ absurd (true≢false (sym (subst (λ p. goes table point p ≡ true) (sym at_k) goes_there) ∙ ordered.descends i k d later below))
           ]
 
--- and what is left of it goes down in the same order
+-- and what is left of it descends in the same order
 pub slim_go_down : (links : List Link) (lists : List Conditions) (order : List PointId) → GoDown order lists → GoDown order (slimmed links lists)
 slim_go_down links lists order down =
     let count = length-map lists (slim_conditions links lists) in
@@ -196,7 +196,7 @@ slim_go_down links lists order down =
       whole = λ point inside. down.whole point (omega (arith, inside, count));
       once = down.once;
       points = λ k d inside. let at = down.points k d inside in omega (arith, at, count);
-      falls = λ i d bound inside among.
+      descends = λ i d bound inside among.
           let c = conditions_at lists (get_or order i d) in
-          down.falls i d bound inside (Contains-filter_from (λ b. not (is_bound_implied links lists c b)) c.lower_bounds bound (subst (λ (k : Conditions). Contains k.lower_bounds bound) (slim_at links lists (get_or order i d)) among));
+          down.descends i d bound inside (Contains-filter_from (λ b. not (is_bound_implied links lists c b)) c.lower_bounds bound (subst (λ (k : Conditions). Contains k.lower_bounds bound) (slim_at links lists (get_or order i d)) among));
     }

@@ -103,7 +103,8 @@ pub in_order : (net : Plan) (table : Graph) → All AreInOrder (dispatchable net
 in_order net table k d inside =
     let long = length-map (all_points table.shape) (conditions_in net table) in
     let none : PointId = record { 0 = 0 } in
-    subst AreInOrder (sym (get_or-map (conditions_in net table) (all_points table.shape) k none d (omega (arith, inside, long)))) (by (get_or (all_points table.shape) k none) (is_some (activation net (get_or (all_points table.shape) k none))))
+    subst AreInOrder (sym (get_or-map (conditions_in net table) (all_points table.shape) k none d (omega (arith, inside, long))))
+    (by (get_or (all_points table.shape) k none) (is_some (activation net (get_or (all_points table.shape) k none))))
   where
     by : (point : PointId) (b : Bool) → AreInOrder (if b then no_conditions else record { lower_bounds = lower_bounds_in table point; waits = waits_in table point })
     by point true = no_lists_rise
@@ -145,8 +146,8 @@ module _ (table : Graph) (sound : IsGraph table) (point : PointId) where
         waits_rise = (lists_rise table point).waits;
       }
 
-pub lists_are_exact : ListsAreExact
-lists_are_exact net table point for sound is_point = (
+pub law_lists_are_exact : ListsAreExact
+law_lists_are_exact net table point for sound is_point = (
   λ executable. subst (AreExact table point) (sym (conditions_are net table point for executable)) (lists_exact table sound point),
   λ contingent.
       conditions_stand net table point for is_point

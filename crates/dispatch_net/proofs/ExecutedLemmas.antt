@@ -19,8 +19,8 @@ use Rattle.strategy_model.proofs.CompareLemmas.{duration_of}
 use Rattle.strategy_model.proofs.OrderLemmas.{rank}
 use Rattle.dispatch_net.specs.declared.dispatch.Conditions.{Conditions}
 use Rattle.dispatch_net.specs.Dispatchable.{dispatchable, conditions_at, no_conditions}
-use Rattle.dispatch_net.specs.Execution.{IsFirst, bound_asks, wait_asks, asked_by}
-use Rattle.dispatch_net.specs.Slim.{over_point, over_link, is_bound_implied, over_end, over_wait, is_wait_implied, slim_conditions, slimmed}
+use Rattle.dispatch_net.specs.Execution.{IsFirstNotBefore, required_by_bound, required_by_wait, required_moments}
+use Rattle.dispatch_net.specs.Slim.{over_point, implied_over_link, is_bound_implied, over_end, over_wait, is_wait_implied, slim_conditions, slimmed}
 use Rattle.dispatch_net.specs.Ranked.{IsRanked, IsDispatchTable}
 use Rattle.dispatch_net.specs.Laws.{SlimExecutionsAreTheSame}
 use Rattle.closure_model.proofs.BaseLemmas.{all_contained}
@@ -62,27 +62,27 @@ module _ (net : Plan) (table : Graph) (order : List PointId) (is : IsDispatchTab
           omega (arith, lasts, least)
 
   abbrev Meets : Conditions → (u : ℕ) → Type 0
-  Meets c u = All (λ m. m ≤ u) (asked_by net schedule c)
+  Meets c u = All (λ m. m ≤ u) (required_moments net schedule c)
 
   bound_below : (c : Conditions) (u : ℕ) (bound : PointId × ℤ) → Meets c u → Contains c.lower_bounds bound → moment_in schedule bound.0 + unsigned_abs bound.1 ≤ u
   bound_below c u bound meets among =
-      All-contains (λ m. m ≤ u) (asked_by net schedule c) (bound_asks schedule bound) meets
-      (Contains-append_left (map (bound_asks schedule) c.lower_bounds) (map (wait_asks net schedule) c.waits) (bound_asks schedule bound) (Contains-map (bound_asks schedule) c.lower_bounds bound among))
+      All-contains (λ m. m ≤ u) (required_moments net schedule c) (required_by_bound schedule bound) meets
+      (Contains-append_left (map (required_by_bound schedule) c.lower_bounds) (map (required_by_wait net schedule) c.waits) (required_by_bound schedule bound) (Contains-map (required_by_bound schedule) c.lower_bounds bound among))
 
-  wait_below : (c : Conditions) (u : ℕ) (wait : LinkId × ℤ) → Meets c u → Contains c.waits wait → wait_asks net schedule wait ≤ u
+  wait_below : (c : Conditions) (u : ℕ) (wait : LinkId × ℤ) → Meets c u → Contains c.waits wait → required_by_wait net schedule wait ≤ u
   wait_below c u wait meets among =
-      All-contains (λ m. m ≤ u) (asked_by net schedule c) (wait_asks net schedule wait) meets
-      (Contains-append_right (map (bound_asks schedule) c.lower_bounds) (map (wait_asks net schedule) c.waits) (wait_asks net schedule wait) (Contains-map (wait_asks net schedule) c.waits wait among))
+      All-contains (λ m. m ≤ u) (required_moments net schedule c) (required_by_wait net schedule wait) meets
+      (Contains-append_right (map (required_by_bound schedule) c.lower_bounds) (map (required_by_wait net schedule) c.waits) (required_by_wait net schedule wait) (Contains-map (required_by_wait net schedule) c.waits wait among))
 
   meets_from : (c : Conditions) (u : ℕ) → ((bound : PointId × ℤ) → Contains c.lower_bounds bound → moment_in schedule bound.0 + unsigned_abs bound.1 ≤ u)
-      → ((wait : LinkId × ℤ) → Contains c.waits wait → wait_asks net schedule wait ≤ u) → Meets c u
-  meets_from c u bounds waits = all_contained (λ m. m ≤ u) (asked_by net schedule c) each
+      → ((wait : LinkId × ℤ) → Contains c.waits wait → required_by_wait net schedule wait ≤ u) → Meets c u
+  meets_from c u bounds waits = all_contained (λ m. m ≤ u) (required_moments net schedule c) each
     where
-      each : (m : ℕ) → Contains (asked_by net schedule c) m → m ≤ u
+      each : (m : ℕ) → Contains (required_moments net schedule c) m → m ≤ u
       each m among =
-          elim (Contains-append_cases (map (bound_asks schedule) c.lower_bounds) (map (wait_asks net schedule) c.waits) m among) [
-            | inl left ↦ (let (bound, there, same) = Contains-map_from (bound_asks schedule) c.lower_bounds m left in subst (λ n. n ≤ u) same (bounds bound there))
-            | inr right ↦ (let (wait, there, same) = Contains-map_from (wait_asks net schedule) c.waits m right in subst (λ n. n ≤ u) same (waits wait there))
+          elim (Contains-append_cases (map (required_by_bound schedule) c.lower_bounds) (map (required_by_wait net schedule) c.waits) m among) [
+            | inl left ↦ (let (bound, there, same) = Contains-map_from (required_by_bound schedule) c.lower_bounds m left in subst (λ n. n ≤ u) same (bounds bound there))
+            | inr right ↦ (let (wait, there, same) = Contains-map_from (required_by_wait net schedule) c.waits m right in subst (λ n. n ≤ u) same (waits wait there))
           ]
 
   module _ (point : PointId) (below : (other : PointId) → rank order other < rank order point → Meets (conditions_at made other) (moment_in schedule other)) (u : ℕ) where
@@ -97,25 +97,25 @@ module _ (net : Plan) (table : Graph) (order : List PointId) (is : IsDispatchTab
     kept_bound kept zero bound among near = absurd (let less = ranked.bounds point bound among in omega (arith, less, near))
     kept_bound kept (suc fuel) bound among near = by (λ other there nearer. kept_bound kept fuel other there nearer) (is_bound_implied net.links made lists bound) refl
       where
-        over : (other : PointId × ℤ) → Contains lists.lower_bounds other → (over_point made bound other || over_link net.links bound other) ≡ true
+        over : (other : PointId × ℤ) → Contains lists.lower_bounds other → (over_point made bound other || implied_over_link net.links bound other) ≡ true
             → (rank order bound.0 < rank order other.0) × (moment_in schedule other.0 + unsigned_abs other.1 ≤ u → moment_in schedule bound.0 + unsigned_abs bound.1 ≤ u)
         over other there holds =
             let n_above = ranked.bounds_positive point bound among in
             let m_above = ranked.bounds_positive point other there in
-            elim (or_cases (over_point made bound other) (over_link net.links bound other) holds) [
+            elim (or_cases (over_point made bound other) (implied_over_link net.links bound other) holds) [
               | inl first ↦
                   (let (inner, within, tested) = any_is (λ (inner : PointId × ℤ). inner.0.0 == bound.0.0 && int_le bound.1 (other.1 +ℤ inner.1)) (conditions_at made other.0).lower_bounds first in
                   let (at, enough) = and_parts (inner.0.0 == bound.0.0) (int_le bound.1 (other.1 +ℤ inner.1)) tested in
                   let same : inner.0 ≡ bound.0 = same_point inner.0 bound.0 at in
                   let sum = adds_up bound.1 other.1 inner.1 enough n_above m_above (ranked.bounds_positive other.0 inner within) in
-                  let asked = bound_below (conditions_at made other.0) (moment_in schedule other.0) inner (below other.0 (ranked.bounds point other there)) within in
+                  let required = bound_below (conditions_at made other.0) (moment_in schedule other.0) inner (below other.0 (ranked.bounds point other there)) within in
                   let its : moment_in schedule inner.0 ≡ moment_in schedule bound.0 = ap (moment_in schedule) same in
-                  (subst (λ (p : PointId). rank order p < rank order other.0) same (ranked.bounds other.0 inner within), λ met. omega (arith, met, asked, sum, its)))
+                  (subst (λ (p : PointId). rank order p < rank order other.0) same (ranked.bounds other.0 inner within), λ met. omega (arith, met, required, sum, its)))
               | inr second ↦
                   (let (link, within, tested) = any_is (λ (link : Link). link.to.0 == other.0.0 && (link.from.0 == bound.0.0 && int_le bound.1 (other.1 +ℤ link.low))) net.links second in
                   let (to, more) = and_parts (link.to.0 == other.0.0) (link.from.0 == bound.0.0 && int_le bound.1 (other.1 +ℤ link.low)) tested in
                   let (from, enough) = and_parts (link.from.0 == bound.0.0) (int_le bound.1 (other.1 +ℤ link.low)) more in
-                  let goes : rank order link.from < rank order link.to = ranked.links_fall link within in
+                  let goes : rank order link.from < rank order link.to = ranked.links_go_down link within in
                   let begins = same_point link.from bound.0 from in
                   let ends = same_point link.to other.0 to in
                   let r_begins : rank order link.from ≡ rank order bound.0 = ap (rank order) begins in
@@ -131,26 +131,26 @@ module _ (net : Plan) (table : Graph) (order : List PointId) (is : IsDispatchTab
             → (b : Bool) → is_bound_implied net.links made lists bound ≡ b → moment_in schedule bound.0 + unsigned_abs bound.1 ≤ u
         by rest false no_others = bound_below slim u bound kept (Contains-filter (λ b. not (is_bound_implied net.links made lists b)) lists.lower_bounds bound among (ap not no_others))
         by rest true implied =
-            let (other, there, holds) = any_is (λ other. over_point made bound other || over_link net.links bound other) lists.lower_bounds implied in
+            let (other, there, holds) = any_is (λ other. over_point made bound other || implied_over_link net.links bound other) lists.lower_bounds implied in
             let (further, meets) = over other there holds in
             meets (rest other there (omega (arith, further, near)))
 
-    -- what a wait asks for
+    -- what a wait requires
     asks_is : (wait : LinkId × ℤ) (link : Link) → slice_get net.links wait.0.0 ≡ Some link
-        → wait_asks net schedule wait ≡ min (moment_in schedule link.to) (moment_in schedule link.from + unsigned_abs wait.1)
+        → required_by_wait net schedule wait ≡ min (moment_in schedule link.to) (moment_in schedule link.from + unsigned_abs wait.1)
     asks_is wait link declared = ap (λ (o : Option Link). option_map_or (λ (l : Link). min (moment_in schedule l.to) (moment_in schedule l.from + unsigned_abs wait.1)) o 0) declared
 
-    asks_below : (wait : LinkId × ℤ) (link : Link) → slice_get net.links wait.0.0 ≡ Some link → (moment_in schedule link.to ≤ u) ⊎ (moment_in schedule link.from + unsigned_abs wait.1 ≤ u) → wait_asks net schedule wait ≤ u
+    asks_below : (wait : LinkId × ℤ) (link : Link) → slice_get net.links wait.0.0 ≡ Some link → (moment_in schedule link.to ≤ u) ⊎ (moment_in schedule link.from + unsigned_abs wait.1 ≤ u) → required_by_wait net schedule wait ≤ u
     asks_below wait link declared (inl come) = subst (λ n. n ≤ u) (sym (asks_is wait link declared)) (min_left (moment_in schedule link.to) (moment_in schedule link.from + unsigned_abs wait.1) u come)
     asks_below wait link declared (inr gone) = subst (λ n. n ≤ u) (sym (asks_is wait link declared)) (min_right (moment_in schedule link.to) (moment_in schedule link.from + unsigned_abs wait.1) u gone)
 
-    -- a wait for a link that there isn't asks for nothing
-    asks_nothing : (wait : LinkId × ℤ) → slice_get net.links wait.0.0 ≡ None → wait_asks net schedule wait ≤ u
+    -- a wait for a link that there isn't requires nothing
+    asks_nothing : (wait : LinkId × ℤ) → slice_get net.links wait.0.0 ≡ None → required_by_wait net schedule wait ≤ u
     asks_nothing wait none =
-        let nothing : wait_asks net schedule wait ≡ 0 = ap (λ (o : Option Link). option_map_or (λ (l : Link). min (moment_in schedule l.to) (moment_in schedule l.from + unsigned_abs wait.1)) o 0) none in
+        let nothing : required_by_wait net schedule wait ≡ 0 = ap (λ (o : Option Link). option_map_or (λ (l : Link). min (moment_in schedule l.to) (moment_in schedule l.from + unsigned_abs wait.1)) o 0) none in
         omega (arith, nothing)
 
-    kept_wait : Meets slim u → (wait : LinkId × ℤ) → Contains lists.waits wait → wait_asks net schedule wait ≤ u
+    kept_wait : Meets slim u → (wait : LinkId × ℤ) → Contains lists.waits wait → required_by_wait net schedule wait ≤ u
     kept_wait kept wait among = by_link (slice_get net.links wait.0.0) refl
       where
         over : (link : Link) → slice_get net.links wait.0.0 ≡ Some link → (other : PointId × ℤ) → Contains lists.lower_bounds other → moment_in schedule other.0 + unsigned_abs other.1 ≤ u
@@ -173,22 +173,22 @@ module _ (net : Plan) (table : Graph) (order : List PointId) (is : IsDispatchTab
                   (let (inner, within, tested) = any_is (λ (inner : LinkId × ℤ). inner.0.0 == wait.0.0 && int_le wait.1 (other.1 +ℤ inner.1)) (conditions_at made other.0).waits second in
                   let (at, enough) = and_parts (inner.0.0 == wait.0.0) (int_le wait.1 (other.1 +ℤ inner.1)) tested in
                   let named : slice_get net.links inner.0.0 ≡ Some link = ap (slice_get net.links) (eqb-true inner.0.0 wait.0.0 at) ∙ declared in
-                  let asked = wait_below (conditions_at made other.0) (moment_in schedule other.0) inner (below other.0 (ranked.bounds point other there)) within in
+                  let required = wait_below (conditions_at made other.0) (moment_in schedule other.0) inner (below other.0 (ranked.bounds point other there)) within in
                   let sum = adds_up wait.1 other.1 inner.1 enough n_above m_above (ranked.waits_positive other.0 inner within) in
-                  elim (min_cases (moment_in schedule link.to) (moment_in schedule link.from + unsigned_abs inner.1) (moment_in schedule other.0) (subst (λ n. n ≤ moment_in schedule other.0) (asks_is inner link named) asked)) [
+                  elim (min_cases (moment_in schedule link.to) (moment_in schedule link.from + unsigned_abs inner.1) (moment_in schedule other.0) (subst (λ n. n ≤ moment_in schedule other.0) (asks_is inner link named) required)) [
                     | inl come ↦ inl (omega (arith, come, met))
                     | inr gone ↦ inr (omega (arith, gone, met, sum))
                   ])
             ]
 
-        by : (link : Link) → slice_get net.links wait.0.0 ≡ Some link → (b : Bool) → is_wait_implied net.links made lists wait ≡ b → wait_asks net schedule wait ≤ u
+        by : (link : Link) → slice_get net.links wait.0.0 ≡ Some link → (b : Bool) → is_wait_implied net.links made lists wait ≡ b → required_by_wait net schedule wait ≤ u
         by link declared false no_others = wait_below slim u wait kept (Contains-filter (λ w. not (is_wait_implied net.links made lists w)) lists.waits wait among (ap not no_others))
         by link declared true implied =
             let (other, there, holds) = any_is (λ other. option_map_or (over_end wait.1 other) (slice_get net.links wait.0.0) false || over_wait made wait other) lists.lower_bounds implied in
             let tested : (over_end wait.1 other link || over_wait made wait other) ≡ true = ap (λ (o : Option Link). option_map_or (over_end wait.1 other) o false || over_wait made wait other) (sym declared) ∙ holds in
             asks_below wait link declared (over link declared other there (kept_bound kept (rank order point) other there (omega arith)) tested)
 
-        by_link : (o : Option Link) → slice_get net.links wait.0.0 ≡ o → wait_asks net schedule wait ≤ u
+        by_link : (o : Option Link) → slice_get net.links wait.0.0 ≡ o → required_by_wait net schedule wait ≤ u
         by_link None none = asks_nothing wait none
         by_link (Some link) declared = by link declared (is_wait_implied net.links made lists wait) refl
 
@@ -205,7 +205,7 @@ module _ (net : Plan) (table : Graph) (order : List PointId) (is : IsDispatchTab
   kept = slimmed net.links made
 
   abbrev Executes : List Conditions → Type 0
-  Executes by_what = (point : PointId) → IsExecutable net point → IsFirst (asked_by net schedule (conditions_at by_what point)) (moment_in schedule point)
+  Executes by_what = (point : PointId) → IsExecutable net point → IsFirstNotBefore (required_moments net schedule (conditions_at by_what point)) (moment_in schedule point)
 
   meets_nothing : (point : PointId) (u : ℕ) → conditions_at made point ≡ no_conditions → Meets (conditions_at made point) u
   meets_nothing point u nothing = meets_from (conditions_at made point) u
@@ -213,7 +213,7 @@ module _ (net : Plan) (table : Graph) (order : List PointId) (is : IsDispatchTab
       (λ wait among. absurd (Contains-none wait (subst (λ (c : Conditions). Contains c.waits wait) nothing among)))
 
   first_of : (point : PointId) → ((other : PointId) → rank order other < rank order point → Meets (conditions_at made other) (moment_in schedule other))
-      → IsFirst (asked_by net schedule (conditions_at kept point)) (moment_in schedule point) → IsFirst (asked_by net schedule (conditions_at made point)) (moment_in schedule point)
+      → IsFirstNotBefore (required_moments net schedule (conditions_at kept point)) (moment_in schedule point) → IsFirstNotBefore (required_moments net schedule (conditions_at made point)) (moment_in schedule point)
   first_of point below first =
       let at = slim_at net.links made point in
       record {
@@ -244,8 +244,8 @@ module _ (net : Plan) (table : Graph) (order : List PointId) (is : IsDispatchTab
         first = λ other meets. first.first other (made_from_slim point below other (subst (λ (c : Conditions). Meets c other) at meets));
       }
 
-pub slim_executions_are_the_same : SlimExecutionsAreTheSame
-slim_executions_are_the_same net table order situation schedule is is_situation = (
+pub law_slim_executions_are_the_same : SlimExecutionsAreTheSame
+law_slim_executions_are_the_same net table order situation schedule is is_situation = (
   λ execution. record { complete = execution.complete; executable = made_executes net table order is situation schedule is_situation execution.contingent execution.executable; contingent = execution.contingent },
   λ execution. record { complete = execution.complete; executable = slim_executes net table order is situation schedule is_situation execution.contingent execution.executable; contingent = execution.contingent },
 )

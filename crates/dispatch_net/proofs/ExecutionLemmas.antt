@@ -20,15 +20,15 @@ use Rattle.closure_model.proofs.TableLemmas.{listed_edge}
 use Rattle.strategy_model.specs.Situations.{moment_in}
 use Rattle.strategy_model.specs.Plays.{same_point}
 use Rattle.strategy_model.specs.Edges.{IsNegativeOrdinary}
-use Rattle.strategy_model.specs.Dispatch.{awaited, ComesAtOnce, IsOrder}
-use Rattle.strategy_model.proofs.CompletenessLemmas.{closed_lists_give_strategies}
-use Rattle.strategy_model.proofs.DispatchedLemmas.{dispatched_satisfy}
-use Rattle.strategy_model.proofs.LowerLemmas.{dispatched_exist}
-use Rattle.controllability.proofs.ClosureLemmas.{closed_tables_are_closed_lists}
+use Rattle.strategy_model.specs.Dispatch.{release_moment, ComesAtOnce, IsOrder}
+use Rattle.strategy_model.proofs.CompletenessLemmas.{law_closed_lists_give_strategies}
+use Rattle.strategy_model.proofs.DispatchedLemmas.{law_dispatched_satisfy}
+use Rattle.strategy_model.proofs.LowerLemmas.{law_dispatched_exist}
+use Rattle.closure_laws.proofs.ClosureLemmas.{law_closed_tables_are_closed_lists}
 use Rattle.dispatch_net.specs.Dispatchable.{lower_bounds_in, waits_in, no_conditions, conditions_in, dispatchable, conditions_at}
-use Rattle.dispatch_net.specs.Execution.{asked_by, IsFirst}
+use Rattle.dispatch_net.specs.Execution.{required_moments, IsFirstNotBefore}
 use Rattle.dispatch_net.specs.Laws.{ExecutionsAreDispatched, ExecutionsSatisfy, ExecutionsArePlayed}
-use Rattle.dispatch_net.proofs.HoldLemmas.{holding, asking}
+use Rattle.dispatch_net.proofs.HoldLemmas.{holding, edge_for}
 
 -- ---- the first moment
 -- the greatest of 0 and some moments
@@ -59,7 +59,7 @@ greatest_of (n ∷ ms) = by (greatest_of ms)
 each_contained : (ms : List ℕ) (t : ℕ) → ((m : ℕ) → Contains ms m → m ≤ t) → All (λ m. m ≤ t) ms
 each_contained ms t each = All-weaker (Contains ms) (λ m. m ≤ t) each ms (All-contains_itself ms)
 
-first_reached : (ms : List ℕ) (t : ℕ) → IsFirst ms t → (t ≡ 0) ⊎ Contains ms t
+first_reached : (ms : List ℕ) (t : ℕ) → IsFirstNotBefore ms t → (t ≡ 0) ⊎ Contains ms t
 first_reached ms t is =
     let g = greatest_of ms in
     let low : t ≤ g.most = is.first g.most (each_contained ms g.most g.above) in
@@ -70,7 +70,7 @@ first_reached ms t is =
           let same : g.most ≡ t = omega (arith, low, high) in inr (subst (Contains ms) same there))
     ]
 
--- ---- by what an executable point is executed
+-- ---- the lower bounds and waits of an executable point
 pub point_count : (net : Plan) (table : Graph) → IsFor net table → table.shape.points ≡ length net.points
 point_count net table for = ap (λ (s : Shape). s.points) for
 
@@ -96,39 +96,43 @@ conditions_are net table point for executable =
     ∙ ap (λ (b : Bool). if b then no_conditions else record { lower_bounds = lower_bounds_in table point; waits = waits_in table point }) executable.1
 
 module _ (net : Plan) (table : Graph) (for : IsFor net table) (sound : IsGraph table) (schedule : List ℕ) (point : PointId) (executable : IsExecutable net point) where
-  is_asked : (m : ℕ) → Contains (asked_by net schedule (record { lower_bounds = lower_bounds_in table point; waits = waits_in table point })) m → Contains (asked_by net schedule (conditions_at (dispatchable net table) point)) m
-  is_asked m among = subst (λ conditions. Contains (asked_by net schedule conditions) m) (sym (conditions_are net table point for executable)) among
+  is_required : (m : ℕ) → Contains (required_moments net schedule (record { lower_bounds = lower_bounds_in table point; waits = waits_in table point })) m
+      → Contains (required_moments net schedule (conditions_at (dispatchable net table) point)) m
+  is_required m among = subst (λ conditions. Contains (required_moments net schedule conditions) m) (sym (conditions_are net table point for executable)) among
 
-  as_asked : (m : ℕ) → Contains (asked_by net schedule (conditions_at (dispatchable net table) point)) m → Contains (asked_by net schedule (record { lower_bounds = lower_bounds_in table point; waits = waits_in table point })) m
-  as_asked m among = subst (λ conditions. Contains (asked_by net schedule conditions) m) (conditions_are net table point for executable) among
+  as_required : (m : ℕ) → Contains (required_moments net schedule (conditions_at (dispatchable net table) point)) m
+      → Contains (required_moments net schedule (record { lower_bounds = lower_bounds_in table point; waits = waits_in table point })) m
+  as_required m among = subst (λ conditions. Contains (required_moments net schedule conditions) m) (conditions_are net table point for executable) among
 
-  at_once : IsFirst (asked_by net schedule (conditions_at (dispatchable net table) point)) (moment_in schedule point) → ComesAtOnce net (edges_of table) schedule point
+  at_once : IsFirstNotBefore (required_moments net schedule (conditions_at (dispatchable net table) point)) (moment_in schedule point) → ComesAtOnce net (edges_of table) schedule point
   at_once is =
-      let asked = asked_by net schedule (conditions_at (dispatchable net table) point) in
+      let required = required_moments net schedule (conditions_at (dispatchable net table) point) in
       record {
-        not_before = λ edge holds. All-contains (λ m. m ≤ moment_in schedule point) asked (awaited net schedule edge) is.meets (is_asked (awaited net schedule edge) (holding net table for sound schedule point edge holds));
-        reached = elim (first_reached asked (moment_in schedule point) is) [ inl none ↦ inl none | inr among ↦ inr (asking net table for sound schedule point (moment_in schedule point) (as_asked (moment_in schedule point) among)) ];
+        not_before = λ edge holds. All-contains (λ m. m ≤ moment_in schedule point) required (release_moment net schedule edge) is.meets
+            (is_required (release_moment net schedule edge) (holding net table for sound schedule point edge holds));
+        reached = elim (first_reached required (moment_in schedule point) is) [ inl none ↦ inl none | inr among ↦ inr (edge_for net table for sound schedule point (moment_in schedule point) (as_required (moment_in schedule point) among)) ];
       }
 
-  first_of_all : ComesAtOnce net (edges_of table) schedule point → IsFirst (asked_by net schedule (conditions_at (dispatchable net table) point)) (moment_in schedule point)
-  first_of_all comes = record { meets = each_contained (asked_by net schedule (conditions_at (dispatchable net table) point)) (moment_in schedule point) meets; first = first }
+  first_of_all : ComesAtOnce net (edges_of table) schedule point → IsFirstNotBefore (required_moments net schedule (conditions_at (dispatchable net table) point)) (moment_in schedule point)
+  first_of_all comes = record { meets = each_contained (required_moments net schedule (conditions_at (dispatchable net table) point)) (moment_in schedule point) meets; first = first }
     where
-      meets : (m : ℕ) → Contains (asked_by net schedule (conditions_at (dispatchable net table) point)) m → m ≤ moment_in schedule point
+      meets : (m : ℕ) → Contains (required_moments net schedule (conditions_at (dispatchable net table) point)) m → m ≤ moment_in schedule point
       meets m among =
-          let (edge, holds, is) = asking net table for sound schedule point m (as_asked m among) in
+          let (edge, holds, is) = edge_for net table for sound schedule point m (as_required m among) in
           subst (λ n. n ≤ moment_in schedule point) is (comes.not_before edge holds)
 
-      first : (other : ℕ) → All (λ m. m ≤ other) (asked_by net schedule (conditions_at (dispatchable net table) point)) → moment_in schedule point ≤ other
+      first : (other : ℕ) → All (λ m. m ≤ other) (required_moments net schedule (conditions_at (dispatchable net table) point)) → moment_in schedule point ≤ other
       first other all =
           elim comes.reached [
             | inl none ↦ omega (arith, none)
             | inr found ↦
                 (let (edge, holds, is) = found in
-                subst (λ n. n ≤ other) is (All-contains (λ m. m ≤ other) (asked_by net schedule (conditions_at (dispatchable net table) point)) (awaited net schedule edge) all (is_asked (awaited net schedule edge) (holding net table for sound schedule point edge holds))))
+                subst (λ n. n ≤ other) is (All-contains (λ m. m ≤ other) (required_moments net schedule (conditions_at (dispatchable net table) point)) (release_moment net schedule edge) all
+                (is_required (release_moment net schedule edge) (holding net table for sound schedule point edge holds))))
           ]
 
-pub executions_are_dispatched : ExecutionsAreDispatched
-executions_are_dispatched net table situation schedule for sound = (
+pub law_executions_are_dispatched : ExecutionsAreDispatched
+law_executions_are_dispatched net table situation schedule for sound = (
   λ execution. record {
     complete = execution.complete;
     executable = λ point executable. at_once net table for sound schedule point executable (execution.executable point executable);
@@ -156,43 +160,43 @@ order_of_edges net table order for ordered =
     record {
       complete = λ point is_point. ordered.whole point (omega (arith, point_count net table for, is_point));
       once = distinct_from order ordered.once;
-      falls = λ edge later earlier among negative at_later at_earlier.
-          falls edge.from edge.to edge.label edge.weight later earlier (listed_edge table edge among) negative at_later at_earlier;
+      descends = λ edge later earlier among negative at_later at_earlier.
+          descends edge.from edge.to edge.label edge.weight later earlier (listed_edge table edge among) negative at_later at_earlier;
     }
   where
-    falls : (from to : PointId) (label : Option LinkId) (w : ℤ) (later earlier : ℕ) → HasEdge table (record { from = from; to = to; label = label; weight = w })
+    descends : (from to : PointId) (label : Option LinkId) (w : ℤ) (later earlier : ℕ) → HasEdge table (record { from = from; to = to; label = label; weight = w })
         → IsNegativeOrdinary (record { from = from; to = to; label = label; weight = w }) → slice_get order later ≡ Some from → slice_get order earlier ≡ Some to → earlier < later
-    falls from to (Some label) w later earlier has negative at_later at_earlier = absurd (true≢false (sym negative.0))
-    falls from to None w later earlier has negative at_later at_earlier =
+    descends from to (Some label) w later earlier has negative at_later at_earlier = absurd (true≢false (sym negative.0))
+    descends from to None w later earlier has negative at_later at_earlier =
         elim (cases_lt earlier later) [
           | inl less ↦ less
           | inr not_less ↦
               (let inside : earlier < length order = slice_get_within order earlier to at_earlier in
-              let stays : goes table (get_or order later from) (get_or order earlier from) ≡ false = ordered.falls later earlier from not_less inside in
+              let stays : goes table (get_or order later from) (get_or order earlier from) ≡ false = ordered.descends later earlier from not_less inside in
               let gone : goes table from to ≡ false = sym (λ i. goes table (get_or_from_slice_get order later from from at_later i) (get_or_from_slice_get order earlier to from at_earlier i)) ∙ stays in
               let runs : goes table from to ≡ true = ap (λ (o : Option ℤ). option_map_or (λ (weight : ℤ). int_lt weight (pos 0)) o false) has ∙ negative.1 in
               absurd (true≢false (sym runs ∙ gone)))
         ]
 
 -- ---- executions of a closed table
-pub executions_satisfy : ExecutionsSatisfy
-executions_satisfy net table order instant for sound closed ordered =
-    let list = closed_tables_are_closed_lists net table for sound closed in
+pub law_executions_satisfy : ExecutionsSatisfy
+law_executions_satisfy net table order instant for sound closed ordered =
+    let list = law_closed_tables_are_closed_lists net table for sound closed in
     let order_is = order_of_edges net table order for ordered in
     record {
       executed = λ situation is_situation.
-          let (schedule, dispatched) = dispatched_exist net (edges_of table) order situation instant list order_is is_situation in
-          (schedule, (executions_are_dispatched net table situation schedule for sound).1 dispatched);
+          let (schedule, dispatched) = law_dispatched_exist net (edges_of table) order situation instant list order_is is_situation in
+          (schedule, (law_executions_are_dispatched net table situation schedule for sound).1 dispatched);
       satisfies = λ situation schedule is_situation execution.
-          dispatched_satisfy net (edges_of table) situation schedule instant list is_situation ((executions_are_dispatched net table situation schedule for sound).0 execution);
+          law_dispatched_satisfy net (edges_of table) situation schedule instant list is_situation ((law_executions_are_dispatched net table situation schedule for sound).0 execution);
     }
 
-pub executions_are_played : ExecutionsArePlayed
-executions_are_played net table order instant for sound closed ordered =
-    let (strategy, controls, dispatches) = closed_lists_give_strategies net (edges_of table) order instant (closed_tables_are_closed_lists net table for sound closed) (order_of_edges net table order for ordered) in (
+pub law_executions_are_played : ExecutionsArePlayed
+law_executions_are_played net table order instant for sound closed ordered =
+    let (strategy, controls, dispatches) = law_closed_lists_give_strategies net (edges_of table) order instant (law_closed_tables_are_closed_lists net table for sound closed) (order_of_edges net table order for ordered) in (
       strategy,
       controls,
       λ situation is_situation.
           let (schedule, played, dispatched) = dispatches situation is_situation in
-          (schedule, played, (executions_are_dispatched net table situation schedule for sound).1 dispatched),
+          (schedule, played, (law_executions_are_dispatched net table situation schedule for sound).1 dispatched),
     )

@@ -1,4 +1,4 @@
--- The lower bounds and waits that a table gives a point ask for what its negative edges do.
+-- The lower bounds and waits that a table gives a point require what its negative edges require.
 use Rattle.std.proofs.Common.{◌≡◌, ℕ, ◌+◌, ℤ, pos, ◌<◌, Bool, true, false, inl, inr, List, map, length, get_or, min, Option, Some, None, refl, ap, sym, subst, ◌∙◌, arith, zero-add}
 use Rattle.std.specs.Prelude.{slice_get, int_lt, unsigned_abs, ◌-ℤ◌, if◌then◌else◌}
 use Rattle.std.specs.List.{Contains, enumerate_from}
@@ -18,9 +18,9 @@ use Rattle.closure_model.proofs.Lists.{Contains-map, Contains-map_from, Contains
 use Rattle.closure_model.proofs.KeyLists.{Contains-points}
 use Rattle.closure_model.proofs.TableLemmas.{edge_listed, listed_edge}
 use Rattle.strategy_model.specs.Situations.{moment_in}
-use Rattle.strategy_model.specs.Dispatch.{HoldsBack, awaited, completion_in}
+use Rattle.strategy_model.specs.Dispatch.{HoldsBack, release_moment, completion_in}
 use Rattle.dispatch_net.specs.Dispatchable.{with_moments, lower_bounds_in, waits_in}
-use Rattle.dispatch_net.specs.Execution.{bound_asks, wait_asks, asked_by}
+use Rattle.dispatch_net.specs.Execution.{required_by_bound, required_by_wait, required_moments}
 
 -- ---- lists
 pub numbered_from : {X : Type 0} (xs : List X) (k : ℕ) (x : X) → slice_get xs k ≡ Some x → Contains (enumerate_from 0 xs) (k, x)
@@ -60,7 +60,7 @@ given {X} x (Some w) y gave = by (int_lt w (pos 0)) refl gave
     by true lt some = record { weight = w; held = refl; negative = lt; is = same_Some (x, pos 0 -ℤ w) y some }
     by false lt none = absurd (none-some y none)
 
--- ---- what is asked for
+-- ---- what is required
 module _ (net : Plan) (table : Graph) (for : IsFor net table) (sound : IsGraph table) (schedule : List ℕ) (point : PointId) where
   begins : (label : LinkId) (to : PointId) → slice_get table.shape.activations label.0 ≡ Some to → (link : Link) × (slice_get net.links label.0 ≡ Some link) × (to ≡ link.from)
   begins label to labelled = by (slice_get net.links label.0) refl
@@ -72,65 +72,66 @@ module _ (net : Plan) (table : Graph) (for : IsFor net table) (sound : IsGraph t
       by None none = absurd (none-some to (sym (read ∙ ap (option_map (λ (link : Link). link.from)) none) ∙ labelled))
       by (Some link) declared = (link, declared, same_Some to link.from (sym labelled ∙ read ∙ ap (option_map (λ (link : Link). link.from)) declared))
 
-  -- a wait asks for what its edge does
+  -- a wait requires what its edge requires
   wait_same : (label : LinkId) (to : PointId) (w : ℤ) → slice_get table.shape.activations label.0 ≡ Some to
-      → wait_asks net schedule (label, pos 0 -ℤ w) ≡ min (completion_in net schedule label) (moment_in schedule to + unsigned_abs w)
+      → required_by_wait net schedule (label, pos 0 -ℤ w) ≡ min (completion_in net schedule label) (moment_in schedule to + unsigned_abs w)
   wait_same label to w labelled =
       let (link, declared, from) = begins label to labelled in
       ap (λ (o : Option Link). option_map_or (λ (l : Link). min (moment_in schedule l.to) (moment_in schedule l.from + unsigned_abs (pos 0 -ℤ w))) o 0) declared
       ∙ (λ i. min (moment_in schedule link.to) (moment_in schedule (sym from i) + turned w i))
       ∙ sym (ap (λ (o : Option Link). min (option_map_or (λ (l : Link). moment_in schedule l.to) o 0) (moment_in schedule to + unsigned_abs w)) declared)
 
-  -- what holds the point back is asked for
-  asked_from : (to : PointId) (label : Option LinkId) (w : ℤ) → HasEdge table (record { from = point; to = to; label = label; weight = w }) → int_lt w (pos 0) ≡ true
-      → Contains (asked_by net schedule (record { lower_bounds = lower_bounds_in table point; waits = waits_in table point })) (awaited net schedule (record { from = point; to = to; label = label; weight = w }))
-  asked_from to None w has negative =
+  -- the release moment of a negative edge is required
+  required_from : (to : PointId) (label : Option LinkId) (w : ℤ) → HasEdge table (record { from = point; to = to; label = label; weight = w }) → int_lt w (pos 0) ≡ true
+      → Contains (required_moments net schedule (record { lower_bounds = lower_bounds_in table point; waits = waits_in table point })) (release_moment net schedule (record { from = point; to = to; label = label; weight = w }))
+  required_from to None w has negative =
       let bounds = lower_bounds_in table point in
       let inside : to.0 < table.shape.points = (sound.keys (record { from = point; to = to; label = None; weight = w }) has).to_point in
       let give : PointId → Option (PointId × ℤ) = λ other. with_moments other (weight_of table (ordinary_key point other)) in
       let listed : Contains bounds (to, pos 0 -ℤ w) =
       Contains-filter_map give (all_points table.shape) to (to, pos 0 -ℤ w) (Contains-points 0 table.shape.points to (omega arith) (omega arith)) (ap (with_moments to) has ∙ gives to w negative) in
-      let mapped : Contains (map (bound_asks schedule) bounds) (moment_in schedule to + unsigned_abs (pos 0 -ℤ w)) = Contains-map (bound_asks schedule) bounds (to, pos 0 -ℤ w) listed in
-      Contains-append_left (map (bound_asks schedule) bounds) (map (wait_asks net schedule) (waits_in table point)) (moment_in schedule to + unsigned_abs w)
-      (subst (λ n. Contains (map (bound_asks schedule) bounds) (moment_in schedule to + n)) (turned w) mapped)
-  asked_from to (Some label) w has negative =
+      let mapped : Contains (map (required_by_bound schedule) bounds) (moment_in schedule to + unsigned_abs (pos 0 -ℤ w)) = Contains-map (required_by_bound schedule) bounds (to, pos 0 -ℤ w) listed in
+      Contains-append_left (map (required_by_bound schedule) bounds) (map (required_by_wait net schedule) (waits_in table point)) (moment_in schedule to + unsigned_abs w)
+      (subst (λ n. Contains (map (required_by_bound schedule) bounds) (moment_in schedule to + n)) (turned w) mapped)
+  required_from to (Some label) w has negative =
       let waits = waits_in table point in
       let labelled : slice_get table.shape.activations label.0 ≡ Some to = (sound.keys (record { from = point; to = to; label = Some label; weight = w }) has).labelled in
       let give : ℕ × PointId → Option (LinkId × ℤ) = λ e. with_moments (record { 0 = e.0 }) (weight_of table (labelled_key point e.1 (record { 0 = e.0 }))) in
       let listed : Contains waits (label, pos 0 -ℤ w) =
       Contains-filter_map give (enumerate_from 0 table.shape.activations) (label.0, to) (label, pos 0 -ℤ w) (numbered_from table.shape.activations label.0 to labelled) (ap (with_moments label) has ∙ gives label w negative) in
-      Contains-append_right (map (bound_asks schedule) (lower_bounds_in table point)) (map (wait_asks net schedule) waits) (min (completion_in net schedule label) (moment_in schedule to + unsigned_abs w))
-      (subst (Contains (map (wait_asks net schedule) waits)) (wait_same label to w labelled) (Contains-map (wait_asks net schedule) waits (label, pos 0 -ℤ w) listed))
+      Contains-append_right (map (required_by_bound schedule) (lower_bounds_in table point)) (map (required_by_wait net schedule) waits) (min (completion_in net schedule label) (moment_in schedule to + unsigned_abs w))
+      (subst (Contains (map (required_by_wait net schedule) waits)) (wait_same label to w labelled) (Contains-map (required_by_wait net schedule) waits (label, pos 0 -ℤ w) listed))
 
   pub holding : (edge : Edge) → HoldsBack (edges_of table) point edge
-      → Contains (asked_by net schedule (record { lower_bounds = lower_bounds_in table point; waits = waits_in table point })) (awaited net schedule edge)
+      → Contains (required_moments net schedule (record { lower_bounds = lower_bounds_in table point; waits = waits_in table point })) (release_moment net schedule edge)
   holding edge holds =
       let has : HasEdge table edge = listed_edge table edge holds.among in
-      asked_from edge.to edge.label edge.weight (subst (λ (p : PointId). HasEdge table (record { from = p; to = edge.to; label = edge.label; weight = edge.weight })) holds.begins has) holds.negative
+      required_from edge.to edge.label edge.weight (subst (λ (p : PointId). HasEdge table (record { from = p; to = edge.to; label = edge.label; weight = edge.weight })) holds.begins has) holds.negative
 
-  -- and what is asked for is what an edge holds it back for
-  pub asking : (m : ℕ) → Contains (asked_by net schedule (record { lower_bounds = lower_bounds_in table point; waits = waits_in table point })) m
-      → (edge : Edge) × HoldsBack (edges_of table) point edge × (awaited net schedule edge ≡ m)
-  asking m among =
-      elim (Contains-append_cases (map (bound_asks schedule) (lower_bounds_in table point)) (map (wait_asks net schedule) (waits_in table point)) m among) [ inl one ↦ by_bound one | inr two ↦ by_wait two ]
+  -- and each required moment is the release moment of a negative edge
+  pub edge_for : (m : ℕ) → Contains (required_moments net schedule (record { lower_bounds = lower_bounds_in table point; waits = waits_in table point })) m
+      → (edge : Edge) × HoldsBack (edges_of table) point edge × (release_moment net schedule edge ≡ m)
+  edge_for m among =
+      elim (Contains-append_cases (map (required_by_bound schedule) (lower_bounds_in table point)) (map (required_by_wait net schedule) (waits_in table point)) m among) [ inl one ↦ by_bound one | inr two ↦ by_wait two ]
     where
-      held : (to : PointId) (label : Option LinkId) (w : ℤ) → HasEdge table (record { from = point; to = to; label = label; weight = w }) → int_lt w (pos 0) ≡ true → HoldsBack (edges_of table) point (record { from = point; to = to; label = label; weight = w })
+      held : (to : PointId) (label : Option LinkId) (w : ℤ) → HasEdge table (record { from = point; to = to; label = label; weight = w }) → int_lt w (pos 0) ≡ true
+          → HoldsBack (edges_of table) point (record { from = point; to = to; label = label; weight = w })
       held to label w has negative = record { among = edge_listed table (record { from = point; to = to; label = label; weight = w }) has; begins = refl; negative = negative }
 
-      by_bound : Contains (map (bound_asks schedule) (lower_bounds_in table point)) m → (edge : Edge) × HoldsBack (edges_of table) point edge × (awaited net schedule edge ≡ m)
+      by_bound : Contains (map (required_by_bound schedule) (lower_bounds_in table point)) m → (edge : Edge) × HoldsBack (edges_of table) point edge × (release_moment net schedule edge ≡ m)
       by_bound one =
-          let (bound, listed, asks) = Contains-map_from (bound_asks schedule) (lower_bounds_in table point) m one in
+          let (bound, listed, asks) = Contains-map_from (required_by_bound schedule) (lower_bounds_in table point) m one in
           let (other, there, gave) = Contains-filter_map_from (λ (p : PointId). with_moments p (weight_of table (ordinary_key point p))) (all_points table.shape) bound listed in
           let its = given other (weight_of table (ordinary_key point other)) bound gave in
-          let same : moment_in schedule other + unsigned_abs its.weight ≡ m = ap (λ n. moment_in schedule other + n) (sym (turned its.weight)) ∙ ap (bound_asks schedule) its.is ∙ asks in
+          let same : moment_in schedule other + unsigned_abs its.weight ≡ m = ap (λ n. moment_in schedule other + n) (sym (turned its.weight)) ∙ ap (required_by_bound schedule) its.is ∙ asks in
           (record { from = point; to = other; label = None; weight = its.weight }, held other None its.weight its.held its.negative, same)
 
-      by_wait : Contains (map (wait_asks net schedule) (waits_in table point)) m → (edge : Edge) × HoldsBack (edges_of table) point edge × (awaited net schedule edge ≡ m)
+      by_wait : Contains (map (required_by_wait net schedule) (waits_in table point)) m → (edge : Edge) × HoldsBack (edges_of table) point edge × (release_moment net schedule edge ≡ m)
       by_wait two =
-          let (wait, listed, asks) = Contains-map_from (wait_asks net schedule) (waits_in table point) m two in
+          let (wait, listed, asks) = Contains-map_from (required_by_wait net schedule) (waits_in table point) m two in
           let (e, there, gave) = Contains-filter_map_from (λ (e : ℕ × PointId). let l : LinkId = record { 0 = e.0 } in with_moments l (weight_of table (labelled_key point e.1 l))) (enumerate_from 0 table.shape.activations) wait listed in
           let label : LinkId = record { 0 = e.0 } in
           let its = given label (weight_of table (labelled_key point e.1 label)) wait gave in
           let same : min (completion_in net schedule label) (moment_in schedule e.1 + unsigned_abs its.weight) ≡ m =
-          sym (wait_same label e.1 its.weight (numbered_is table.shape.activations e there)) ∙ ap (wait_asks net schedule) its.is ∙ asks in
+          sym (wait_same label e.1 its.weight (numbered_is table.shape.activations e there)) ∙ ap (required_by_wait net schedule) its.is ∙ asks in
           (record { from = point; to = e.1; label = Some label; weight = its.weight }, held e.1 (Some label) its.weight its.held its.negative, same)

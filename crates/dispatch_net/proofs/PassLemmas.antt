@@ -35,7 +35,7 @@ bounds_before graph point k = filter_map (λ (other : PointId). with_moments oth
 abbrev pub waits_before : Graph → PointId → ℕ → List (LinkId × ℤ)
 waits_before graph point k = filter_map (λ (e : ℕ × PointId). with_moments (record { 0 = e.0 }) (weight_of graph (labelled_key point e.1 (record { 0 = e.0 })))) (enumerate_from 0 (take k graph.shape.activations))
 
--- one more lower bound, where there is one
+-- one more lower bound, if there is one
 pub bound_pushed : (graph : Graph) (point : PointId) (k : ℕ) (before after : List (PointId × ℤ)) (w : Option ℤ)
     → before ≡ bounds_before graph point k
     → after ≡ before ++ cons_option (with_moments (record { 0 = k }) w) []
@@ -52,7 +52,7 @@ bound_pushed graph point k before after w held pushed is =
 abbrev pub wait_weight : Graph → PointId → ℕ → PointId → Option ℤ
 wait_weight graph point k d = weight_of graph (labelled_key point (get_or graph.shape.activations k d) (record { 0 = k }))
 
--- one more wait, where there is one
+-- one more wait, if there is one
 pub wait_pushed : (graph : Graph) (point : PointId) (k : ℕ) (d : PointId) (before after : List (LinkId × ℤ)) (w : Option ℤ) → k < length graph.shape.activations
     → before ≡ waits_before graph point k
     → after ≡ before ++ cons_option (with_moments (record { 0 = k }) w) []

@@ -18,8 +18,8 @@ and_fails true b none = none
 and_fails false b none = refl
 
 module _ {X : Type 0} (number : X → ℕ) (xs : List X) (rises : Rise number xs) where
-  pub do_not_fall : IsNonDecreasingBy number xs
-  do_not_fall i j d upto inside =
+  pub are_non_decreasing : IsNonDecreasingBy number xs
+  are_non_decreasing i j d upto inside =
       elim (cases_lt i j) [
         | inl less ↦ (let rise = rises i j d less inside in omega (arith, rise))
         | inr not_less ↦ (let same : i ≡ j = omega (arith, upto, not_less) in let equal = ap (λ (k : ℕ). number (get_or xs k d)) same in omega (arith, equal))
@@ -29,7 +29,7 @@ module _ {X : Type 0} (number : X → ℕ) (xs : List X) (rises : Rise number xs
     abbrev is_it : X → Bool
     is_it x = number x == wanted && test x
 
-    -- whatever is asked of the items of its number is asked of the one that stands there
+    -- a test of the items of its number is a test of the one that stands there
     pub one_there : (place : ℕ) (d : X) → place < length xs → number (get_or xs place d) ≡ wanted → list_any is_it xs ≡ test (get_or xs place d)
     one_there place d inside same = by (test (get_or xs place d)) refl
       where
@@ -50,7 +50,7 @@ module _ {X : Type 0} (number : X → ℕ) (xs : List X) (rises : Rise number xs
                 let its = ap number (get_or_default xs place e d inside) in
                 and_no (number (get_or xs k e) == wanted) (test (get_or xs k e)) (ne_eqb (number (get_or xs k e)) wanted (λ equal. omega (arith, rise, its, same, equal)))
 
-    -- and where another stands at the place that is searched, there is none
+    -- and if another stands at the place that is searched, there is none
     pub none_there : (place : ℕ) → IsPartitionPoint (λ x. ltb (number x) wanted ≡ true) (λ x. ltb (number x) wanted ≡ false) xs place
         → ((d : X) → place < length xs → number (get_or xs place d) ≢ wanted) → list_any is_it xs ≡ false
     none_there place (below, from) other = list_any_none is_it xs (λ k e within. fails k e within (cases_order k place))

@@ -1,4 +1,4 @@
--- The lists that a closed table with an order gives go down along the order.
+-- The lists that a closed table with an order gives descend along the order.
 use Rattle.std.proofs.Common.{◌≡◌, ◌⊎◌, ◌<◌, ℤ, pos, List, length, None, refl, sym, subst, inl, inr, arith}
 use Rattle.std.specs.Prelude.{◌<ℤ◌, ◌-ℤ◌}
 use Rattle.std.specs.List.{Contains}
@@ -15,15 +15,15 @@ use Rattle.net_model.specs.declared.part.Link.{Link}
 use Rattle.closure_model.specs.Tables.{Graph, edges_of}
 use Rattle.closure_model.proofs.Lists.{Contains-none}
 use Rattle.closure_model.proofs.TableLemmas.{edge_listed}
-use Rattle.strategy_model.proofs.OrderLemmas.{rank, falls_to, falls_to_activation}
+use Rattle.strategy_model.proofs.OrderLemmas.{rank, descends_to, descends_to_activation}
 use Rattle.strategy_model.proofs.PlayLemmas.{link_sound}
-use Rattle.net_model.proofs.ApplyingLemmas.{negative_holds}
+use Rattle.net_model.proofs.AppliedRuleLemmas.{negative_holds}
 use Rattle.strategy_model.proofs.KnownLemmas.{some_from_none}
 use Rattle.strategy_model.proofs.KindLemmas.{kind, ending_known}
-use Rattle.controllability.proofs.ClosureLemmas.{closed_tables_are_closed_lists}
+use Rattle.closure_laws.proofs.ClosureLemmas.{law_closed_tables_are_closed_lists}
 use Rattle.dispatch_net.specs.declared.dispatch.Conditions.{Conditions}
 use Rattle.dispatch_net.specs.Dispatchable.{dispatchable, conditions_at, no_conditions}
-use Rattle.dispatch_net.proofs.ExactLemmas.{lists_are_exact}
+use Rattle.dispatch_net.proofs.ExactLemmas.{law_lists_are_exact}
 use Rattle.dispatch_net.proofs.ExecutionLemmas.{dispatchable_length, order_of_edges}
 use Rattle.dispatch_net.specs.Ranked.{IsRanked}
 use Rattle.dispatch_net.specs.Ranked.{IsDispatchTable}
@@ -45,7 +45,7 @@ module _ (net : Plan) (table : Graph) (order : List PointId) (is : IsDispatchTab
       elim (cases_lt point.0 (length net.points)) [
         | inl inside ↦ elim (kind net point inside) [
           | inl executable ↦ inl executable
-          | inr ending ↦ inr ((lists_are_exact net table point is.for_network is.graph inside).1 (some_from_none (activation net point) (ending_known net point ending)))
+          | inr ending ↦ inr ((law_lists_are_exact net table point is.for_network is.graph inside).1 (some_from_none (activation net point) (ending_known net point ending)))
         ]
         | inr past ↦ inr (get_or_past (dispatchable net table) point.0 no_conditions (omega (arith, past, dispatchable_length net table is.for_network)))
       ]
@@ -55,7 +55,8 @@ module _ (net : Plan) (table : Graph) (order : List PointId) (is : IsDispatchTab
     bounds = λ point bound among. (bound_is point bound among).0;
     bounds_positive = λ point bound among. (bound_is point bound among).1;
     waits_positive = wait_is;
-    links_fall = λ link among. let (name, declared) = listed_link net link among in falls_to_activation net (edges_of table) order is.sound (closed_tables_are_closed_lists net table is.for_network is.graph is.closed) (order_of_edges net table order is.for_network is.ordered) name link declared;
+    links_go_down = λ link among. let (name, declared) = listed_link net link among in descends_to_activation net (edges_of table) order is.sound (law_closed_tables_are_closed_lists net table is.for_network is.graph is.closed)
+        (order_of_edges net table order is.for_network is.ordered) name link declared;
     links_positive = λ link among. let (name, declared) = listed_link net link among in (link_sound net is.sound name.0 link declared).positive;
   }
     where
@@ -64,10 +65,10 @@ module _ (net : Plan) (table : Graph) (order : List PointId) (is : IsDispatchTab
           elim (by_kind point) [
             | inr nothing ↦ absurd (Contains-none bound (subst (λ (c : Conditions). Contains c.lower_bounds bound) nothing among))
             | inl executable ↦
-                (let exact = (lists_are_exact net table point is.for_network is.graph executable.0).0 executable in
+                (let exact = (law_lists_are_exact net table point is.for_network is.graph executable.0).0 executable in
                 let (above, has) = (exact.bounds bound.0 bound.1).0 among in
                 let edge : Edge = record { from = point; to = bound.0; label = None; weight = pos 0 -ℤ bound.1 } in (
-                  falls_to net (edges_of table) order is.sound (closed_tables_are_closed_lists net table is.for_network is.graph is.closed) (order_of_edges net table order is.for_network is.ordered) point edge
+                  descends_to net (edges_of table) order is.sound (law_closed_tables_are_closed_lists net table is.for_network is.graph is.closed) (order_of_edges net table order is.for_network is.ordered) point edge
                       (record { among = edge_listed table edge has; begins = refl; negative = negative_holds edge (is_negative_turned bound.1 above) }),
                   above,
                 ))
@@ -77,5 +78,5 @@ module _ (net : Plan) (table : Graph) (order : List PointId) (is : IsDispatchTab
       wait_is point wait among =
           elim (by_kind point) [
             | inr nothing ↦ absurd (Contains-none wait (subst (λ (c : Conditions). Contains c.waits wait) nothing among))
-            | inl executable ↦ ((((lists_are_exact net table point is.for_network is.graph executable.0).0 executable).waits wait.0 wait.1).0 among).0
+            | inl executable ↦ ((((law_lists_are_exact net table point is.for_network is.graph executable.0).0 executable).waits wait.0 wait.1).0 among).0
           ]

@@ -11,7 +11,7 @@ use Rattle.closure_model.proofs.Lists.{Contains-filter_from, Contains-filter_pas
 use Rattle.dispatch_net.specs.declared.dispatch.Conditions.{Conditions}
 use Rattle.dispatch_net.specs.Dispatchable.{conditions_at}
 use Rattle.dispatch_net.specs.Held.{IsSlimOrWhole}
-use Rattle.dispatch_net.specs.Slim.{over_point, over_link, is_bound_implied, over_end, over_wait, is_wait_implied, slim_conditions, slimmed}
+use Rattle.dispatch_net.specs.Slim.{over_point, implied_over_link, is_bound_implied, over_end, over_wait, is_wait_implied, slim_conditions, slimmed}
 use Rattle.dispatch_net.specs.Laws.{SlimStaysSlim}
 use Rattle.dispatch_net.proofs.SlimLists.{slim_at}
 
@@ -50,12 +50,12 @@ module _ (links : List Link) (made : List Conditions) (c : Conditions) where
 
   fewer_bounds : (bound : PointId × ℤ) → is_bound_implied links kept slim bound ≡ true → is_bound_implied links made c bound ≡ true
   fewer_bounds bound implied =
-      let (other, among, holds) = any_is (λ other. over_point kept bound other || over_link links bound other) slim.lower_bounds implied in
-      any_from (λ other. over_point made bound other || over_link links bound other) c.lower_bounds other
+      let (other, among, holds) = any_is (λ other. over_point kept bound other || implied_over_link links bound other) slim.lower_bounds implied in
+      any_from (λ other. over_point made bound other || implied_over_link links bound other) c.lower_bounds other
       (Contains-filter_from (λ b. not (is_bound_implied links made c b)) c.lower_bounds other among)
-      (elim (or_cases (over_point kept bound other) (over_link links bound other) holds) [
-        | inl first ↦ or_left (over_point made bound other) (over_link links bound other) (fewer_over_point bound other first)
-        | inr second ↦ or_right (over_point made bound other) (over_link links bound other) second
+      (elim (or_cases (over_point kept bound other) (implied_over_link links bound other) holds) [
+        | inl first ↦ or_left (over_point made bound other) (implied_over_link links bound other) (fewer_over_point bound other first)
+        | inr second ↦ or_right (over_point made bound other) (implied_over_link links bound other) second
       ])
 
   fewer_waits : (wait : LinkId × ℤ) → is_wait_implied links kept slim wait ≡ true → is_wait_implied links made c wait ≡ true
@@ -83,10 +83,10 @@ module _ (links : List Link) (made : List Conditions) (c : Conditions) where
   conditions_stay : slim_conditions links kept slim ≡ slim
   conditions_stay = λ i. record { lower_bounds = bounds_stay i; waits = waits_stay i }
 
-pub slim_stays_slim : SlimStaysSlim
-slim_stays_slim links made = map_map (slim_conditions links (slimmed links made)) (slim_conditions links made) made (conditions_stay links made)
+pub law_slim_stays_slim : SlimStaysSlim
+law_slim_stays_slim links made = map_map (slim_conditions links (slimmed links made)) (slim_conditions links made) made (conditions_stay links made)
 
--- whichever of it was kept before, what others imply is left out
+-- what others imply is left out, whatever was kept before
 pub slim_again : (links : List Link) (made old : List Conditions) → IsSlimOrWhole links made old → slimmed links old ≡ slimmed links made
 slim_again links made old (inl whole) = ap (slimmed links) whole
-slim_again links made old (inr slim) = ap (slimmed links) slim ∙ slim_stays_slim links made
+slim_again links made old (inr slim) = ap (slimmed links) slim ∙ law_slim_stays_slim links made

@@ -12,30 +12,30 @@ use Rattle.strategy_model.specs.Situations.{IsSituation, Satisfies, moment_in}
 use Rattle.dispatch_net.specs.declared.dispatch.Conditions.{Conditions}
 use Rattle.dispatch_net.specs.Dispatchable.{conditions_at}
 
--- the moment that a lower bound asks for: n moments after its point
-abbrev pub bound_asks : List ℕ → PointId × ℤ → ℕ
-bound_asks schedule bound = moment_in schedule bound.0 + unsigned_abs bound.1
+-- the moment that a lower bound requires: n moments after its point
+abbrev pub required_by_bound : List ℕ → PointId × ℤ → ℕ
+required_by_bound schedule bound = moment_in schedule bound.0 + unsigned_abs bound.1
 
--- the moment that a wait asks for: that of the contingent point of its link, or n moments after the activation point, whichever
--- comes first
-abbrev pub wait_asks : Plan → List ℕ → LinkId × ℤ → ℕ
-wait_asks net schedule wait =
+-- the moment that a wait requires: that of the contingent point of its link, or n moments after the activation point, whichever comes first
+abbrev pub required_by_wait : Plan → List ℕ → LinkId × ℤ → ℕ
+required_by_wait net schedule wait =
     option_map_or (λ (link : Link). min (moment_in schedule link.to) (moment_in schedule link.from + unsigned_abs wait.1)) (slice_get net.links wait.0.0) 0
 
--- the moments that the lower bounds and waits of a point ask for
-abbrev pub asked_by : Plan → List ℕ → Conditions → List ℕ
-asked_by net schedule conditions = map (bound_asks schedule) conditions.lower_bounds ++ map (wait_asks net schedule) conditions.waits
+-- the moments that the lower bounds and waits of a point require
+abbrev pub required_moments : Plan → List ℕ → Conditions → List ℕ
+required_moments net schedule conditions = map (required_by_bound schedule) conditions.lower_bounds ++ map (required_by_wait net schedule) conditions.waits
 
 -- a moment is the first that is before none of these
-pub record IsFirst (asked : List ℕ) (moment : ℕ) : Type 0 where
-  pub meets : All (λ m. m ≤ moment) asked
-  pub first : (other : ℕ) → All (λ m. m ≤ other) asked → moment ≤ other
+pub record IsFirstNotBefore (required : List ℕ) (moment : ℕ) : Type 0 where
+  pub meets : All (λ m. m ≤ moment) required
+  pub first : (other : ℕ) → All (λ m. m ≤ other) required → moment ≤ other
 
 -- the execution in a situation: an executable point comes at the first moment that meets all its lower bounds and waits, a
 -- contingent point its link's duration after its activation point
 pub record IsExecutedBy (net : Plan) (dispatch : List Conditions) (situation schedule : List ℕ) : Type 0 where
   pub complete : length schedule ≡ length net.points
-  pub executable : (point : PointId) → IsExecutable net point → IsFirst (asked_by net schedule (conditions_at dispatch point)) (moment_in schedule point)
+  pub executable : (point : PointId) → IsExecutable net point → IsFirstNotBefore (required_moments net schedule (conditions_at dispatch point))
+      (moment_in schedule point)
   pub contingent : (name : LinkId) (link : Link) (duration : ℕ) → IsLinkOf net name link → slice_get situation name.0 ≡ Some duration
       → moment_in schedule link.to ≡ moment_in schedule link.from + duration
 

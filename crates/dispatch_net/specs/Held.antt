@@ -1,4 +1,4 @@
--- What holds of a dispatchable network as it is held.
+-- What holds of a dispatchable network as it is stored.
 use Rattle.std.specs.Prelude.{◌≡◌, ◌≢◌, ◌⊎◌, ℕ, ℤ, ◌<◌, ◌≤◌, ◌==◌, ◌&&◌, Bool, false, List, length, find, Option, None}
 use Rattle.std.specs.List.{All, AllPairs, Contains, list_any, slice_index_or}
 use Rattle.std.specs.Option.{option_map_or}
@@ -27,18 +27,19 @@ pub record AreEnds (links : List Link) (points : ℕ) (ends : List (Option Link)
   pub count : length ends ≡ points
   pub each : (point : ℕ) → point < points → slice_index_or ends point None ≡ link_ending links (record { 0 = point })
 
--- whatever is asked of the links that end in a point is asked of this one
+-- a test of the links that end in a point is a test of this one
 abbrev pub AreAllEnds : List Link → List (Option Link) → Type 0
 AreAllEnds links ends =
-    (test : Link → Bool) (point : ℕ) → list_any (λ (link : Link). link.to.0 == point && test link) links ≡ option_map_or test (slice_index_or ends point None) false
+    (test : Link → Bool) (point : ℕ) → list_any (λ (link : Link). link.to.0 == point && test link) links ≡ option_map_or test
+    (slice_index_or ends point None) false
 
--- the links of a network, and by what each point is executed
+-- the links of a network, and the lower bounds and waits by which each point is executed
 pub record HeldLists : Type 0 where
   pub links : List Link
   pub lists : List Conditions
 
--- as they are held: in order, and with the link that ends in each point
-pub record AreHeld (links : List Link) (ends : List (Option Link)) (lists : List Conditions) : Type 0 where
+-- as they are stored: in order, and with the link that ends in each point
+pub record AreHeldLists (links : List Link) (ends : List (Option Link)) (lists : List Conditions) : Type 0 where
   pub in_order : All AreInOrder lists
   pub ends_are : AreEnds links (length lists) ends
   pub all_ends : AreAllEnds links ends
@@ -56,15 +57,15 @@ pub record GoDown (order : List PointId) (lists : List Conditions) : Type 0 wher
   pub whole : (point : PointId) → point.0 < length lists → Contains order point
   pub once : AllPairs (λ p q. p.0 ≢ q.0) order
   pub points : All (λ point. point.0 < length lists) order
-  pub falls : (i : ℕ) (d : PointId) (bound : PointId × ℤ) → i < length order → Contains (conditions_at lists (slice_index_or order i d)).lower_bounds bound
+  pub descends : (i : ℕ) (d : PointId) (bound : PointId × ℤ) → i < length order → Contains (conditions_at lists (slice_index_or order i d)).lower_bounds bound
       → (k : ℕ) × (k < i) × (slice_index_or order k d ≡ bound.0)
 
--- of what was made the whole is kept, or what no others imply
+-- all that was made is kept, or what no others imply
 abbrev pub IsSlimOrWhole : List Link → (made kept : List Conditions) → Type 0
 IsSlimOrWhole links made kept = (kept ≡ made) ⊎ (kept ≡ slimmed links made)
 
--- what is kept, with an order of the points and room for as many lower bounds
+-- what is kept, with an order of the points and capacity for as many lower bounds
 pub record IsKeptInOrder (links : List Link) (made kept : List Conditions) (order : List PointId) (capacity : ℕ) : Type 0 where
   pub slim_or_whole : IsSlimOrWhole links made kept
   pub down : GoDown order kept
-  pub room : length order ≤ capacity
+  pub spare_capacity : length order ≤ capacity

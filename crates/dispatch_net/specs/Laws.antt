@@ -42,7 +42,8 @@ ExecutionsArePlayed =
 -- the lower bounds and waits of an executable point are exactly the negative edges that the table has from it, each once and in
 -- order of number
 pub record AreExact (table : Graph) (point : PointId) (conditions : Conditions) : Type 0 where
-  pub bounds : (other : PointId) (n : ℤ) → Contains conditions.lower_bounds (other, n) ↔ (pos 0 <ℤ n) × HasEdge table (record { from = point; to = other; label = None; weight = pos 0 -ℤ n })
+  pub bounds : (other : PointId) (n : ℤ) → Contains conditions.lower_bounds (other, n) ↔ (pos 0 <ℤ n)
+      × HasEdge table (record { from = point; to = other; label = None; weight = pos 0 -ℤ n })
   pub waits : (link : LinkId) (n : ℤ) → Contains conditions.waits (link, n)
       ↔ (pos 0 <ℤ n) × ((activation : PointId) × HasEdge table (record { from = point; to = activation; label = Some link; weight = pos 0 -ℤ n }))
   pub bounds_rise : AllPairs (λ b c. b.0.0 < c.0.0) conditions.lower_bounds
@@ -60,14 +61,14 @@ abbrev pub ClosuresMayDispatch : Type 0
 ClosuresMayDispatch =
     (net : Plan) (table : Graph) (order : List PointId) → IsPlan net → IsClosure net table → table_orders.IsOrder table order → MayDispatch net table order
 
--- and then a schedule is the earliest of a situation exactly where it is the execution
+-- and then a schedule is the earliest of a situation exactly if it is the execution
 abbrev pub ClosuresExecuteEarliest : Type 0
 ClosuresExecuteEarliest =
     (net : Plan) (table : Graph) (order : List PointId) (situation schedule : List ℕ) → IsInstant net → IsClosure net table → IsGraph table
     → table_orders.IsOrder table order → IsSituation net situation
     → (IsEarliest net situation schedule ↔ IsExecutedBy net (dispatchable net table) situation schedule)
 
--- by what is left of a closed table's lists when those are left out that others imply, the same schedules are executed
+-- by a closed table's lists without those that others imply, the same schedules are executed
 abbrev pub SlimExecutionsAreTheSame : Type 0
 SlimExecutionsAreTheSame =
     (net : Plan) (table : Graph) (order : List PointId) (situation schedule : List ℕ) → IsDispatchTable net table order → IsSituation net situation

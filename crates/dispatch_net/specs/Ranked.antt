@@ -1,4 +1,4 @@
--- The lists of a closed table with an order go down along the order.
+-- The lists of a closed table with an order descend along the order.
 use Rattle.std.specs.Prelude.{ℕ, ℤ, pos, ◌<◌, ◌<ℤ◌, ◌≤ℤ◌, List}
 use Rattle.std.specs.List.{Contains}
 use Rattle.net_model.specs.Network.{Plan, IsPlan}
@@ -18,10 +18,10 @@ pub record IsDispatchTable (net : Plan) (table : Graph) (order : List PointId) :
   pub closed : IsClosed net table
   pub ordered : IsOrder table order
 
--- lower bounds and links go down along a rank of the points, and all their numbers and those of waits are positive
+-- lower bounds and links descend along a rank of the points, and all their numbers and those of waits are positive
 pub record IsRanked (links : List Link) (made : List Conditions) (rank : PointId → ℕ) : Type 0 where
   pub bounds : (point : PointId) (bound : PointId × ℤ) → Contains (conditions_at made point).lower_bounds bound → rank bound.0 < rank point
   pub bounds_positive : (point : PointId) (bound : PointId × ℤ) → Contains (conditions_at made point).lower_bounds bound → pos 0 <ℤ bound.1
   pub waits_positive : (point : PointId) (wait : LinkId × ℤ) → Contains (conditions_at made point).waits wait → pos 0 <ℤ wait.1
-  pub links_fall : (link : Link) → Contains links link → rank link.from < rank link.to
+  pub links_go_down : (link : Link) → Contains links link → rank link.from < rank link.to
   pub links_positive : (link : Link) → Contains links link → pos 1 ≤ℤ link.low

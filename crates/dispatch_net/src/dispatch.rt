@@ -1,3 +1,5 @@
+//! The dispatchable network of a table: the lower bounds and waits by which each point is executed.
+
 ghost use Rattle.std.specs.Prelude.{◌≡◌, ◌<◌, ◌++◌, [], length, IfOk, IfSome, OnOk};
 ghost use Rattle.std.specs.List.{cons_option};
 ghost use Rattle.std.specs.Option.{option_and_then};
@@ -5,19 +7,21 @@ ghost use Rattle.net_model.specs.Network.{IsPoint};
 ghost use Rattle.strategy_model.specs.Plays.{IsInstant};
 ghost use Rattle.net_model.specs.Limits.{IsWeight};
 ghost use Rattle.closure_model.specs.Tables.{IsFor, IsGraph};
-ghost use Rattle.dispatch_net.specs.Dispatchable.{MayDispatch, lower_bounds_in, waits_in, conditions_in, dispatchable, conditions_at, IsDispatchBy, moments_of, with_moments};
+ghost use Rattle.dispatch_net.specs.Dispatchable.{MayDispatch, lower_bounds_in, waits_in};
+ghost use Rattle.dispatch_net.specs.Dispatchable.{conditions_in, dispatchable, conditions_at};
+ghost use Rattle.dispatch_net.specs.Dispatchable.{IsDispatchBy, moments_of, with_moments};
 ghost use Rattle.dispatch_net.specs.Execution.{ExecutionSatisfies};
 ghost use Rattle.dispatch_net.specs.Held.{IsSlimOrWhole, link_ending};
 ghost use Rattle.dispatch_net.specs.Slim.{slimmed};
 
-use crate::held::{Held, no_conditions};
+use crate::held_lists::{Held, no_conditions};
 use labelled_graph::Table;
 use net_model::{Items, Link, LinkId, Network, PointId, Weight};
 use std::alloc::{AllocError, Global};
 use std::marker::Model;
 use std::snapshot::Snapshot;
 
-/// By what a point is executed.
+/// The lower bounds and waits by which a point is executed.
 #[derive(Debug, Drop)]
 pub struct Conditions {
     /// A point and n: n moments after that point.
@@ -26,9 +30,11 @@ pub struct Conditions {
     pub waits: Items<(LinkId, Weight)>,
 }
 
-/// The dispatchable network of a closed table (Morris, Muscettola and Vidal 2001, in this project's form): the lower bounds and
-/// waits by which each executable point is executed, and the links of its network. Contracts see it as the links, the lists that were made
-/// of the table, one for each point, and those that are kept: the whole of them, or those that no others imply. Only what is kept is held.
+/// The dispatchable network of a closed table (Morris, Muscettola and Vidal 2001, in this project's
+/// form): the lower bounds and waits by which each executable point is executed, and the links of
+/// its network. Contracts see it as the links, the lists that were made from the table, one for
+/// each point, and those that are kept: all of them, or only those that no others imply. Only what
+/// is kept is stored; what was made is known to clauses alone.
 #[derive(Drop)]
 #[derive_where(Debug)]
 pub struct Dispatch {
@@ -46,14 +52,22 @@ impl Model for Dispatch {
 
     ghost Value = { DispatchLists };
 
-    ghost view = { λ dispatch. record { links = dispatch.held.links; made = dispatch.made.value.items; kept = dispatch.held.lists } };
+    ghost view = { λ dispatch. record {
+      links = dispatch.held.links;
+      made = dispatch.made.value.items;
+      kept = dispatch.held.lists;
+    } };
 
-    ghost invariant = { λ dispatch. IsKeptInOrder dispatch.held.links dispatch.made.value.items dispatch.held.lists dispatch.order.items (vec_capacity dispatch.others) };
+    ghost invariant = { λ dispatch. IsKeptInOrder dispatch.held.links dispatch.made.value.items
+        dispatch.held.lists dispatch.order.items (vec_capacity dispatch.others) };
 }
 
 impl Dispatch {
-    /// The dispatchable network of a closed table that has an order, of a network without a delay: by its lower bounds and waits the network
-    /// is executed in every situation, and each execution satisfies it. One with a delay is dispatched by its shown form. `slim` goes along the order. `AllocError` comes only for want of memory.
+    /// The dispatchable network of a closed table that has an order, of a network without a delay:
+    /// by its lower bounds and waits the network is executed in every situation, and each execution
+    /// satisfies it. One with a delay is dispatched by its shown form. That a table is sound, as
+    /// `executed` requires, is a clause of `Table::weight`. `slim` follows the order, in capacity
+    /// that is reserved here. `AllocError` comes only if memory is refused.
     pub fn of(
         alloc: Global,
         net: &Network,
@@ -64,7 +78,8 @@ impl Dispatch {
         requires no_delay { net.now.delay ≡ 0 }
         ensures dispatchable { IfOk result (IsDispatchBy net.now table.now) }
         ensures whole { IfOk result (λ dispatch. length dispatch.made ≡ length net.now.points) }
-        ensures executed { IfOk result (λ dispatch. IsInstant net.now → IsGraph table.now → ExecutionSatisfies net.now dispatch.made) }
+        ensures executed { IfOk result (λ dispatch. IsInstant net.now → IsGraph table.now
+            → ExecutionSatisfies net.now dispatch.made) }
     {
         let lists = conditions_by(alloc, net, table)?;
         let made = Snapshot::of(&lists);
@@ -79,8 +94,9 @@ impl Dispatch {
         })
     }
 
-    /// The same without the lower bounds and waits that others of their point imply, each tested against what is kept before the call. By
-    /// what is left every execution is the same, and every next due moment. It takes no memory.
+    /// The same dispatchable network without the lower bounds and waits that others of their point
+    /// imply, each tested against what is kept before the call. What is left gives the same
+    /// executions and the same next due moments. It takes no memory.
     pub fn slim(self) -> Dispatch
         ensures links { result.links ≡ self.links }
         ensures made { result.made ≡ self.made }
@@ -117,8 +133,8 @@ impl Dispatch {
         self.held.link_to(point)
     }
 
-    /// The lower bounds that are kept of a point, in order of number: a point and n above 0, for n moments after that point. A contingent
-    /// point has none.
+    /// The lower bounds that are kept of a point, in order of number: a point and n above 0, for n
+    /// moments after that point. A contingent point has none.
     pub fn lower_bounds(&self, point: PointId) -> &[(PointId, Weight)]
         requires { point.0 < length self.now.kept }
         ensures { result.now ≡ (conditions_at self.now.kept point).lower_bounds }
@@ -126,8 +142,9 @@ impl Dispatch {
         self.held.conditions(point).lower_bounds.as_slice()
     }
 
-    /// The waits that are kept of a point, in order of number: a link and n above 0, for the contingent point of the link or n moments
-    /// after its activation point. A contingent point has none.
+    /// The waits that are kept of a point, in order of number: a link and n above 0, for the
+    /// contingent point of the link or n moments after its activation point. A contingent point has
+    /// none.
     pub fn waits(&self, point: PointId) -> &[(LinkId, Weight)]
         requires { point.0 < length self.now.kept }
         ensures { result.now ≡ (conditions_at self.now.kept point).waits }
@@ -136,7 +153,7 @@ impl Dispatch {
     }
 }
 
-/// By what each point is executed, in the order of the points.
+/// The lower bounds and waits by which each point is executed, in the order of the points.
 fn conditions_by(alloc: Global, net: &Network, table: &Table) -> Result<Vec<Conditions>, AllocError>
     requires { IsFor net.now table.now }
     ensures made { IfOk result (λ conditions. conditions.items ≡ dispatchable net.now table.now) }
@@ -149,7 +166,7 @@ fn conditions_by(alloc: Global, net: &Network, table: &Table) -> Result<Vec<Cond
     Ok(conditions)
 }
 
-/// By what a point is executed.
+/// The lower bounds and waits by which a point is executed.
 fn conditions_of(
     alloc: Global,
     net: &Network,
@@ -209,7 +226,7 @@ fn waits_of(
     Ok(waits)
 }
 
-/// The moments of a negative weight.
+/// The number of moments that a negative weight stands for.
 fn moments(weight: Option<Weight>) -> Option<Weight>
     requires { IfSome weight IsWeight }
     ensures { result ≡ option_and_then moments_of weight }
@@ -226,7 +243,8 @@ fn push_bound(
     weight: Option<Weight>,
 ) -> Result<(), AllocError>
     requires { IfSome weight IsWeight }
-    ensures { OnOk result (bounds.new.items ≡ bounds.old.items ++ cons_option (with_moments point weight) []) }
+    ensures { OnOk result (bounds.new.items ≡ bounds.old.items ++ cons_option
+        (with_moments point weight) []) }
 {
     if let Some(n) = moments(weight) {
         bounds.push((point, n))?;
@@ -240,7 +258,8 @@ fn push_wait(
     weight: Option<Weight>,
 ) -> Result<(), AllocError>
     requires { IfSome weight IsWeight }
-    ensures { OnOk result (waits.new.items ≡ waits.old.items ++ cons_option (with_moments link weight) []) }
+    ensures { OnOk result (waits.new.items ≡ waits.old.items ++ cons_option
+        (with_moments link weight) []) }
 {
     if let Some(n) = moments(weight) {
         waits.push((link, n))?;

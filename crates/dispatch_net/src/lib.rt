@@ -2,8 +2,8 @@
 #![tactic(auto)]
 
 mod dispatch;
-mod held;
+mod held_lists;
 pub mod laws;
-mod slim;
+mod slim_lists;
 
 pub use dispatch::{Conditions, Dispatch};

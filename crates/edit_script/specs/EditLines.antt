@@ -3,7 +3,7 @@ use Rattle.std.specs.Prelude.{◌≡◌, ℕ, List, [], ◌∷◌, Option, None,
 use Rattle.texts.specs.Words.{words, is_remark}
 use Rattle.net_model.specs.LineReading.{read_as}
 use Rattle.net_model.specs.Places.{Form}
-use Rattle.net_model.specs.Reading.{◌>>=◌}
+use Rattle.net_model.specs.WordReading.{◌>>=◌}
 use Rattle.net_model.specs.declared.edit.Edit.{Edit}
 use Rattle.net_model.specs.declared.format.FormatKind.{FormatKind}
 use Rattle.net_model.specs.declared.format.FormatKind.TheVariants.{WordCount}
@@ -35,7 +35,7 @@ abbrev pub step_line : List ℕ → Result Step FormatKind
 step_line line = step_of (words line)
 
 -- the answer to a line, which takes no memory
-abbrev pub Reads : Result Step WordFault → Result Step FormatKind → Type 0
-Reads (Ok told) read = read ≡ Ok told
-Reads (Err (word.Kind kind)) read = read ≡ Err kind
-Reads (Err word.OutOfMemory) read = ⊥
+abbrev pub ReadsStep : Result Step WordFault → Result Step FormatKind → Type 0
+ReadsStep (Ok stated) read = read ≡ Ok stated
+ReadsStep (Err (word.Kind kind)) read = read ≡ Err kind
+ReadsStep (Err word.OutOfMemory) read = ⊥

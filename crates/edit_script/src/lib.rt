@@ -1,4 +1,5 @@
-//! The lines of a session: edits of a plan and questions about it, each line read alone and without memory.
+//! The lines of a session: edits of a plan and questions about it, each line read alone and without
+//! memory.
 #![tactic(auto)]
 
 pub mod laws;

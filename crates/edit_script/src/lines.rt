@@ -6,23 +6,29 @@ ghost use Rattle.net_model.specs.Limits.{most_number};
 ghost use Rattle.net_model.specs.LineReading.{read_as, read_by};
 ghost use Rattle.net_model.specs.Numbers.{integer_of};
 ghost use Rattle.edit_script.specs.declared.step.Step.{Step};
-ghost use Rattle.edit_script.specs.EditText.{IsLine, IsFaultOf, edit_form, add_form, drop_form, set_form, bound_form, link_form, number_form, interval_form, question_of, alone};
-ghost use Rattle.edit_script.specs.EditLines.{Reads, step_line, step_of, step_by, edit_line};
+ghost use Rattle.edit_script.specs.EditText.{IsEditLine, IsEditFault, edit_form, add_form};
+ghost use Rattle.edit_script.specs.EditText.{drop_edit_form, set_form, add_bound_form};
+ghost use Rattle.edit_script.specs.EditText.{add_link_form, number_form, interval_form};
+ghost use Rattle.edit_script.specs.EditText.{question_of, alone};
+ghost use Rattle.edit_script.specs.EditLines.{ReadsStep, step_line, step_of, step_by, edit_line};
 
 use crate::step::Step;
 use net_model::{Edit, FormatKind, MOST_NUMBER, Weight, WordFault, text};
 
-/// Reads one line of a session: a blank line, an edit, or a question, `go` or `end`. An edit is `add` and a line that declares a
-/// point, a bound or a link, as in a plan; `drop point NAME`, `drop bound NAME`, `drop link TO`; `set bound NAME MOST` or
-/// `set link TO LOW HIGH`. The questions are `verdict`, `proof`, `table`, `plan` and `report`. The fault is the first one:
-/// `UnknownWord` of the first word; of an edit `WordCount` where there is no second word, and `UnknownWord` where no edit begins
-/// with the two; then `WordCount`; then of the words from left to right `BadName`, `BadNumber`, and `NumberLimit` beyond
-/// 1,000,000,000 in size. It takes no memory, so `OutOfMemory` never comes.
+/// Reads one line of a session: a blank line, an edit, or a question, `go` or `end`. An edit is
+/// `add` and a line that declares a point, a bound or a link, as in a plan; `drop point NAME`,
+/// `drop bound NAME`, `drop link TO`; `set bound NAME MOST` or `set link TO LOW HIGH`. The
+/// questions are `verdict`, `proof`, `table`, `plan` and `report`. The fault is the first one:
+/// `UnknownWord` of the first word; of an edit `WordCount` if there is no second word, and
+/// `UnknownWord` if no edit begins with the two; then `WordCount`; then of the words from left to
+/// right `BadName`, `BadNumber`, and `NumberLimit` beyond 1,000,000,000 in size. It takes no
+/// memory, so `OutOfMemory` never comes. Clause `reads` says the same once more, as a function of
+/// the line.
 pub fn read_step(line: &[u8]) -> Result<Step, WordFault>
-    ensures reads { Reads result (step_line line.now) }
-    ensures grammar { IfOk result (λ step. IsLine step line.now) }
-    ensures every { (step : Step) → IsLine step line.now → result ≡ Ok step }
-    ensures fault { IfErr result (IsFaultOf line.now) }
+    ensures reads { ReadsStep result (step_line line.now) }
+    ensures grammar { IfOk result (λ step. IsEditLine step line.now) }
+    ensures every { (step : Step) → IsEditLine step line.now → result ≡ Ok step }
+    ensures fault { IfErr result (IsEditFault line.now) }
 {
     match step_of(line) {
         Ok(step) => Ok(step),
@@ -92,7 +98,7 @@ fn question_of(first: &[u8]) -> Option<Step>
     None
 }
 
-/// What stands after `add`.
+/// The words after `add`.
 fn add_line(rest: &[u8]) -> Result<Edit, FormatKind>
     ensures { result ≡ edit_line add_form (words rest.now) }
 {
@@ -109,9 +115,9 @@ fn add_line(rest: &[u8]) -> Result<Edit, FormatKind>
     Err(FormatKind::UnknownWord)
 }
 
-/// What stands after `drop`.
+/// The words after `drop`.
 fn drop_line(rest: &[u8]) -> Result<Edit, FormatKind>
-    ensures { result ≡ edit_line drop_form (words rest.now) }
+    ensures { result ≡ edit_line drop_edit_form (words rest.now) }
 {
     let (second, rest) = text::word(rest)?;
     if second == b"point".as_slice() {
@@ -126,7 +132,7 @@ fn drop_line(rest: &[u8]) -> Result<Edit, FormatKind>
     Err(FormatKind::UnknownWord)
 }
 
-/// What stands after `set`.
+/// The words after `set`.
 fn set_line(rest: &[u8]) -> Result<Edit, FormatKind>
     ensures { result ≡ edit_line set_form (words rest.now) }
 {
@@ -142,7 +148,7 @@ fn set_line(rest: &[u8]) -> Result<Edit, FormatKind>
 
 /// NAME FROM TO MOST of a new bound.
 fn bound_line(rest: &[u8]) -> Result<Edit, FormatKind>
-    ensures { result ≡ read_by bound_form (words rest.now) }
+    ensures { result ≡ read_by add_bound_form (words rest.now) }
 {
     let (name, from, to, most) = text::four(rest)?;
     Ok(Edit::AddBound(
@@ -155,7 +161,7 @@ fn bound_line(rest: &[u8]) -> Result<Edit, FormatKind>
 
 /// FROM LOW HIGH TO of a new link.
 fn link_line(rest: &[u8]) -> Result<Edit, FormatKind>
-    ensures { result ≡ read_by link_form (words rest.now) }
+    ensures { result ≡ read_by add_link_form (words rest.now) }
 {
     let (from, low, high, to) = text::four(rest)?;
     Ok(Edit::AddLink(

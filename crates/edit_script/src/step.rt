@@ -1,6 +1,8 @@
+//! The steps that the lines of a session state.
+
 use net_model::Edit;
 
-/// What a line of a session tells.
+/// What a line of a session states.
 #[derive(Clone, Copy, Debug)]
 pub enum Step {
     /// A line without words, or whose first word begins with `#`.
@@ -13,7 +15,7 @@ pub enum Step {
     Proof,
     /// The lower bounds and waits by which the plan is executed.
     Table,
-    /// The plan as it stands.
+    /// The plan as it is now.
     Plan,
     /// What the last accepted edit kept and withdrew.
     Report,

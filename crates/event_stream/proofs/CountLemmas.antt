@@ -35,8 +35,8 @@ pub few_words : (line : List ℕ) → 2 * length (words line) ≤ length line + 
 unfolding words
 few_words line = omega (arith, few_after [] line)
 
--- there is room for the words after the first of a line that is not too long
-pub room_after : (line : List ℕ) (first : List ℕ) (others : List (List ℕ)) → words line ≡ first ∷ others → length line ≤ most_line → length others ≤ most_completions
-room_after line first others split short =
+-- there is capacity for the words after the first of a line that is not too long
+pub capacity_after : (line : List ℕ) (first : List ℕ) (others : List (List ℕ)) → words line ≡ first ∷ others → length line ≤ most_line → length others ≤ most_completions
+capacity_after line first others split short =
     let count : length (words line) ≡ suc (length others) = ap length split in
     omega (arith, few_words line)

@@ -1,4 +1,4 @@
--- What is read of a line is what its words tell, and the fault that is told is its first.
+-- What is read of a line is what its words state, and the fault that is answered is its first.
 use Rattle.std.proofs.Common.{◌≡◌, ℕ, ◌≤◌, Bool, true, false, cond, List, [], ◌∷◌, Option, None, Some, Result, Ok, Err, refl, sym, ap, ◌∙◌, subst, arith, inl, inr, IsTrue, codes, nat_lt}
 use Rattle.std.specs.Str.{bytes_eq}
 use Rattle.std.specs.Fmt.{decimal}
@@ -10,11 +10,12 @@ use Rattle.net_model.specs.Network.{Plan, point_named}
 use Rattle.net_model.specs.declared.ids.PointId.{PointId}
 use Rattle.net_model.specs.declared.format.FormatKind.{FormatKind}
 use Rattle.net_model.specs.declared.format.FormatKind.TheVariants.{UnknownWord, WordCount, BadNumber, NumberLimit, UnknownName}
-use Rattle.net_model.proofs.ReadingLemmas.{choice, bind_ok, bind_err, name_ok, name_err, name_read, word_is}
-use Rattle.net_model.proofs.SpellingLemmas.{natural_spelled, spelled_natural}
+use Rattle.net_model.proofs.ReadWordLemmas.{choice, bind_ok, bind_err, name_ok, name_err, name_read, word_is}
+use Rattle.net_model.proofs.DecimalSpellingLemmas.{natural_spelled, spelled_natural}
 use Rattle.net_model.specs.Limits.{most_moment}
-use Rattle.event_stream.specs.EventText.{EventLine, blank, completed, done, NamesPoint, NamePoints, AreWordsOf, spells_moment, FitsMoment, MisfitsMoment, MisfitsPoint, FirstMisfits, IsFaultAfterAt, BeginsOtherwise, IsFaultOfWords, unknown_word, after_at, after_done}
-use Rattle.event_stream.specs.EventLines.{known, point_of, points_by_names, completions_line, done_line, line_by_word, event_line}
+use Rattle.event_stream.specs.EventText.{EventLine, blank, completed, done, NamesPoint, NamePoints, AreWordsOfEventLine, spells_moment, FitsMoment, MisfitsMoment, MisfitsPoint, FirstMisfitsPoint, IsFaultAfterAt, BeginsOtherwise}
+use Rattle.event_stream.specs.EventText.{IsEventFaultOfWords, unknown_word, after_at, after_done}
+use Rattle.event_stream.specs.EventLines.{known, point_of, points_by_names, completions_line, done_line, event_line_by_word, event_line}
 
 -- a point that is known, or not
 known_ok : (found : Option PointId) (point : PointId) → known found ≡ Ok point → found ≡ Some point
@@ -64,7 +65,7 @@ points_read net [] (p ∷ ps) is = absurd is
 points_read net (word ∷ words) [] is = absurd is
 points_read net (word ∷ words) (p ∷ ps) is = rw (named_read net word p is.0, points_read net words ps is.1) refl
 
-misfits_err : (net : Plan) (words : List (List ℕ)) (kind : FormatKind) → points_by_names net words ≡ Err kind → FirstMisfits net words kind
+misfits_err : (net : Plan) (words : List (List ℕ)) (kind : FormatKind) → points_by_names net words ≡ Err kind → FirstMisfitsPoint net words kind
 misfits_err net [] kind read = absurd (cc)
 misfits_err net (word ∷ words) kind read =
     elim (bind_err (point_of net word) _ kind read) [
@@ -75,7 +76,7 @@ misfits_err net (word ∷ words) kind read =
       ]
     ]
 
-misfits_read : (net : Plan) (words : List (List ℕ)) (kind : FormatKind) → FirstMisfits net words kind → points_by_names net words ≡ Err kind
+misfits_read : (net : Plan) (words : List (List ℕ)) (kind : FormatKind) → FirstMisfitsPoint net words kind → points_by_names net words ≡ Err kind
 misfits_read net [] kind is = absurd is
 misfits_read net (word ∷ words) kind (inl here) = rw (misfit_read net word kind here) refl
 misfits_read net (word ∷ words) kind (inr later) = rw (named_read net word later.0 later.1, misfits_read net words kind later.2) refl
@@ -127,15 +128,15 @@ misfits_by : (word : List ℕ) (kind : FormatKind) (answer : Result ℕ FormatKi
 misfits_by word kind (Ok moment) is misfits = absurd (fits_or_not word kind (moment_ok word moment is) misfits)
 misfits_by word kind (Err k) is misfits = is ∙ ap (λ (e : FormatKind). Err e) (misfit_one word k kind (moment_err word k is) misfits)
 
--- what stands after `at`
-at_ok : (net : Plan) (others : List (List ℕ)) (told : EventLine) → completions_line net others ≡ Ok told → AreWordsOf net told (codes "at" ∷ others)
-at_ok net [] told read = absurd (cc)
-at_ok net (word ∷ names) told read =
-    let here = bind_ok (natural_of most_moment word) _ told read in
-    let later = bind_ok (points_by_names net names) _ told here.2 in
-    let same : completed here.0 later.0 ≡ told = (let last : Ok (completed here.0 later.0) ≡ Ok told = later.2 in cc) in
+-- what follows `at`
+at_ok : (net : Plan) (others : List (List ℕ)) (stated : EventLine) → completions_line net others ≡ Ok stated → AreWordsOfEventLine net stated (codes "at" ∷ others)
+at_ok net [] stated read = absurd (cc)
+at_ok net (word ∷ names) stated read =
+    let here = bind_ok (natural_of most_moment word) _ stated read in
+    let later = bind_ok (points_by_names net names) _ stated here.2 in
+    let same : completed here.0 later.0 ≡ stated = (let last : Ok (completed here.0 later.0) ≡ Ok stated = later.2 in cc) in
     let spelling = spelled_natural most_moment here.0 word here.1 (omega arith) in
-    subst (λ (t : EventLine). AreWordsOf net t (codes "at" ∷ word ∷ names)) same (record {
+    subst (λ (t : EventLine). AreWordsOfEventLine net t (codes "at" ∷ word ∷ names)) same (record {
       names = names;
       spelled = ap (λ (w : List ℕ). codes "at" ∷ w ∷ names) spelling.0;
       within = spelling.1;
@@ -160,62 +161,62 @@ fault_at net (word ∷ names) kind (inr later) =
     let moment = fits_by word (natural_of most_moment word) refl later.0 in
     rw (moment.1, misfits_read net names kind later.1) refl
 
--- what stands after `done`
-done_ok : (net : Plan) (others : List (List ℕ)) (told : EventLine) → done_line others ≡ Ok told → AreWordsOf net told (codes "done" ∷ others)
-done_ok net [] told read = let same : done ≡ told = cc in subst (λ (t : EventLine). AreWordsOf net t (codes "done" ∷ [])) same refl
-done_ok net (next ∷ others) told read = absurd (cc)
+-- what follows `done`
+done_ok : (net : Plan) (others : List (List ℕ)) (stated : EventLine) → done_line others ≡ Ok stated → AreWordsOfEventLine net stated (codes "done" ∷ others)
+done_ok net [] stated read = let same : done ≡ stated = cc in subst (λ (t : EventLine). AreWordsOfEventLine net t (codes "done" ∷ [])) same refl
+done_ok net (next ∷ others) stated read = absurd (cc)
 
-done_err : (net : Plan) (others : List (List ℕ)) (kind : FormatKind) → done_line others ≡ Err kind → IsFaultOfWords net (codes "done" ∷ others) kind
+done_err : (net : Plan) (others : List (List ℕ)) (kind : FormatKind) → done_line others ≡ Err kind → IsEventFaultOfWords net (codes "done" ∷ others) kind
 done_err net [] kind read = absurd (cc)
 done_err net (next ∷ others) kind read = after_done next others refl (cc)
 
 -- a line by its first word
-not_begun : (first spelling : List ℕ) (others : List (List ℕ)) → bytes_eq first spelling ≡ false → bytes_eq spelling spelling ≡ true → BeginsOtherwise spelling (first ∷ others)
-not_begun first spelling others differs itself rest same =
+begins_otherwise : (first spelling : List ℕ) (others : List (List ℕ)) → bytes_eq first spelling ≡ false → bytes_eq spelling spelling ≡ true → BeginsOtherwise spelling (first ∷ others)
+begins_otherwise first spelling others differs itself rest same =
     let first_is : first ≡ spelling = cc in
     let wrong : false ≡ true = sym differs ∙ (ap (λ (w : List ℕ). bytes_eq w spelling) first_is ∙ itself) in cc
 
-line_ok : (net : Plan) (first : List ℕ) (others : List (List ℕ)) (told : EventLine) → line_by_word net first others ≡ Ok told → AreWordsOf net told (first ∷ others)
-line_ok net first others told read =
-    elim (choice (bytes_eq first (codes "at")) _ _ (Ok told) read) [
-      | inl at ↦ subst (λ (w : List ℕ). AreWordsOf net told (w ∷ others)) (sym (word_is first (codes "at") at.0)) (at_ok net others told at.1)
-      | inr not_at ↦ elim (choice (bytes_eq first (codes "done")) _ _ (Ok told) not_at.1) [
-        | inl end ↦ subst (λ (w : List ℕ). AreWordsOf net told (w ∷ others)) (sym (word_is first (codes "done") end.0)) (done_ok net others told end.1)
-        | inr unknown ↦ absurd (let wrong : Err UnknownWord ≡ Ok told = unknown.1 in cc)
+line_ok : (net : Plan) (first : List ℕ) (others : List (List ℕ)) (stated : EventLine) → event_line_by_word net first others ≡ Ok stated → AreWordsOfEventLine net stated (first ∷ others)
+line_ok net first others stated read =
+    elim (choice (bytes_eq first (codes "at")) _ _ (Ok stated) read) [
+      | inl at ↦ subst (λ (w : List ℕ). AreWordsOfEventLine net stated (w ∷ others)) (sym (word_is first (codes "at") at.0)) (at_ok net others stated at.1)
+      | inr not_at ↦ elim (choice (bytes_eq first (codes "done")) _ _ (Ok stated) not_at.1) [
+        | inl end ↦ subst (λ (w : List ℕ). AreWordsOfEventLine net stated (w ∷ others)) (sym (word_is first (codes "done") end.0)) (done_ok net others stated end.1)
+        | inr unknown ↦ absurd (let wrong : Err UnknownWord ≡ Ok stated = unknown.1 in cc)
       ]
     ]
 
-line_err : (net : Plan) (first : List ℕ) (others : List (List ℕ)) (kind : FormatKind) → is_remark first ≡ false → line_by_word net first others ≡ Err kind → IsFaultOfWords net (first ∷ others) kind
+line_err : (net : Plan) (first : List ℕ) (others : List (List ℕ)) (kind : FormatKind) → is_remark first ≡ false → event_line_by_word net first others ≡ Err kind → IsEventFaultOfWords net (first ∷ others) kind
 line_err net first others kind plain read =
     elim (choice (bytes_eq first (codes "at")) _ _ (Err kind) read) [
       | inl at ↦ after_at others (ap (λ (w : List ℕ). w ∷ others) (word_is first (codes "at") at.0)) (at_err net others kind at.1)
       | inr not_at ↦ elim (choice (bytes_eq first (codes "done")) _ _ (Err kind) not_at.1) [
-        | inl end ↦ subst (λ (w : List ℕ). IsFaultOfWords net (w ∷ others) kind) (sym (word_is first (codes "done") end.0)) (done_err net others kind end.1)
-        | inr unknown ↦ unknown_word plain (not_begun first (codes "at") others not_at.0 refl) (not_begun first (codes "done") others unknown.0 refl) (let same : Err UnknownWord ≡ Err kind = unknown.1 in cc)
+        | inl end ↦ subst (λ (w : List ℕ). IsEventFaultOfWords net (w ∷ others) kind) (sym (word_is first (codes "done") end.0)) (done_err net others kind end.1)
+        | inr unknown ↦ unknown_word plain (begins_otherwise first (codes "at") others not_at.0 refl) (begins_otherwise first (codes "done") others unknown.0 refl) (let same : Err UnknownWord ≡ Err kind = unknown.1 in cc)
       ]
     ]
 
--- what is read of a line is what its words tell
-pub event_ok : (net : Plan) (words : List (List ℕ)) (told : EventLine) → event_line net words ≡ Ok told → AreWordsOf net told words
+-- what is read of a line is what its words state
+pub event_ok : (net : Plan) (words : List (List ℕ)) (stated : EventLine) → event_line net words ≡ Ok stated → AreWordsOfEventLine net stated words
 unfolding event_line
-event_ok net [] told read = let same : blank ≡ told = cc in subst (λ (t : EventLine). AreWordsOf net t []) same refl
-event_ok net (first ∷ others) told read =
-    elim (choice (is_remark first) (Ok blank) (line_by_word net first others) (Ok told) read) [
-      | inl remark ↦ let same : blank ≡ told = (let last : Ok blank ≡ Ok told = remark.1 in cc) in subst (λ (t : EventLine). AreWordsOf net t (first ∷ others)) same remark.0
-      | inr other ↦ line_ok net first others told other.1
+event_ok net [] stated read = let same : blank ≡ stated = cc in subst (λ (t : EventLine). AreWordsOfEventLine net t []) same refl
+event_ok net (first ∷ others) stated read =
+    elim (choice (is_remark first) (Ok blank) (event_line_by_word net first others) (Ok stated) read) [
+      | inl remark ↦ let same : blank ≡ stated = (let last : Ok blank ≡ Ok stated = remark.1 in cc) in subst (λ (t : EventLine). AreWordsOfEventLine net t (first ∷ others)) same remark.0
+      | inr other ↦ line_ok net first others stated other.1
     ]
 
--- the fault that is told of a line is its first
-pub event_err : (net : Plan) (words : List (List ℕ)) (kind : FormatKind) → event_line net words ≡ Err kind → IsFaultOfWords net words kind
+-- the fault that is answered to a line is its first
+pub event_err : (net : Plan) (words : List (List ℕ)) (kind : FormatKind) → event_line net words ≡ Err kind → IsEventFaultOfWords net words kind
 unfolding event_line
 event_err net [] kind read = absurd (cc)
 event_err net (first ∷ others) kind read =
-    elim (choice (is_remark first) (Ok blank) (line_by_word net first others) (Err kind) read) [
+    elim (choice (is_remark first) (Ok blank) (event_line_by_word net first others) (Err kind) read) [
       | inl remark ↦ absurd (let wrong : Ok blank ≡ Err kind = remark.1 in cc)
       | inr other ↦ line_err net first others kind other.0 other.1
     ]
 
--- a line is read as what its words tell
+-- a line is read as what its words state
 blank_read : (net : Plan) (words : List (List ℕ)) → are_passed_over words ≡ true → event_line net words ≡ Ok blank
 unfolding event_line
 blank_read net [] passed = refl
@@ -229,19 +230,19 @@ done_read : (net : Plan) → event_line net (codes "done" ∷ []) ≡ Ok done
 unfolding event_line
 done_read net = refl
 
-pub told_read : (net : Plan) (told : EventLine) (words : List (List ℕ)) → AreWordsOf net told words → event_line net words ≡ Ok told
-told_read net blank words is = blank_read net words is
-told_read net (completed moment points) words is = ap (event_line net) is.spelled ∙ completed_read net moment points is.names is.within is.named
-told_read net done words is = ap (event_line net) is ∙ done_read net
+pub stated_read : (net : Plan) (stated : EventLine) (words : List (List ℕ)) → AreWordsOfEventLine net stated words → event_line net words ≡ Ok stated
+stated_read net blank words is = blank_read net words is
+stated_read net (completed moment points) words is = ap (event_line net) is.spelled ∙ completed_read net moment points is.names is.within is.named
+stated_read net done words is = ap (event_line net) is ∙ done_read net
 
 -- a line is refused for its first fault
 module _ (net : Plan) (first : List ℕ) (others : List (List ℕ)) (no_at : BeginsOtherwise (codes "at") (first ∷ others)) (no_done : BeginsOtherwise (codes "done") (first ∷ others)) where
-  other_by : (at end : Bool) → bytes_eq first (codes "at") ≡ at → bytes_eq first (codes "done") ≡ end → line_by_word net first others ≡ Err UnknownWord
+  other_by : (at end : Bool) → bytes_eq first (codes "at") ≡ at → bytes_eq first (codes "done") ≡ end → event_line_by_word net first others ≡ Err UnknownWord
   other_by true end is_at is_done = absurd (no_at others (ap (λ (w : List ℕ). w ∷ others) (word_is first (codes "at") is_at)))
   other_by false true is_at is_done = absurd (no_done others (ap (λ (w : List ℕ). w ∷ others) (word_is first (codes "done") is_done)))
   other_by false false is_at is_done = rw (is_at, is_done) refl
 
-  other_word : line_by_word net first others ≡ Err UnknownWord
+  other_word : event_line_by_word net first others ≡ Err UnknownWord
   other_word = other_by (bytes_eq first (codes "at")) (bytes_eq first (codes "done")) refl refl
 
 unknown_read : (net : Plan) (words : List (List ℕ)) → are_passed_over words ≡ false → BeginsOtherwise (codes "at") words → BeginsOtherwise (codes "done") words → event_line net words ≡ Err UnknownWord
@@ -257,7 +258,7 @@ more_read : (net : Plan) (next : List ℕ) (others : List (List ℕ)) → event_
 unfolding event_line
 more_read net next others = refl
 
-pub fault_read : (net : Plan) (words : List (List ℕ)) (kind : FormatKind) → IsFaultOfWords net words kind → event_line net words ≡ Err kind
+pub fault_read : (net : Plan) (words : List (List ℕ)) (kind : FormatKind) → IsEventFaultOfWords net words kind → event_line net words ≡ Err kind
 fault_read net words kind (unknown_word filled no_at no_done is) = unknown_read net words filled no_at no_done ∙ ap (λ (e : FormatKind). Err e) (sym is)
 fault_read net words kind (after_at others split is) = ap (event_line net) split ∙ at_read net others kind (fault_at net others kind is)
 fault_read net words kind (after_done next others split is) = ap (event_line net) split ∙ (more_read net next others ∙ ap (λ (e : FormatKind). Err e) (sym is))

@@ -1,4 +1,4 @@
 pub mod NameLemmas
 pub mod CountLemmas
 pub mod GrammarLemmas
-pub mod ReadingLemmas
+pub mod ReadLineLemmas

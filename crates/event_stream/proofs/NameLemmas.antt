@@ -11,7 +11,7 @@ pub record Decides (net : Plan) (left all : List (List ℕ)) : Type 0 where
   pub named : IsOk (points_by_names net left) → IsOk (points_by_names net all)
   pub refused : (kind : FormatKind) → points_by_names net left ≡ Err kind → points_by_names net all ≡ Err kind
 
--- the points of all words are those of the words that are gone, and then those of the words that are left
+-- the points of all words are those of the words that were read, and then those of the words that are left
 pub record GoesOn (net : Plan) (left all : List (List ℕ)) (points : List PointId) : Type 0 where
   pub named : IsOk (points_by_names net left)
   pub whole : (more : List PointId) → points_by_names net left ≡ Ok more → points_by_names net all ≡ Ok (points ++ more)
@@ -28,7 +28,7 @@ module _ (net : Plan) (word : List ℕ) (others : List (List ℕ)) where
   more_named point (Ok points) here is named = rw (one_more point points here is) refl
   more_named point (Err kind) here is named = absurd (cc)
 
-  -- where the words name points, the first does and so do the others
+  -- if the words name points, the first does and so do the others
   pub first_named : (here : Result PointId FormatKind) → point_of net word ≡ here → IsOk (points_by_names net (word ∷ others)) → IsOk here
   first_named (Ok point) is named = refl
   first_named (Err kind) is named = rw is at named

@@ -3,7 +3,7 @@ use Rattle.std.specs.Prelude.{◌≡◌, ℕ, List, [], ◌∷◌, Option, None,
 use Rattle.std.specs.Str.{bytes_eq}
 use Rattle.texts.specs.Words.{is_remark}
 use Rattle.net_model.specs.Numbers.{name_of, natural_of}
-use Rattle.net_model.specs.Reading.{◌>>=◌}
+use Rattle.net_model.specs.WordReading.{◌>>=◌}
 use Rattle.net_model.specs.Network.{Plan, point_named}
 use Rattle.net_model.specs.declared.ids.PointId.{PointId}
 use Rattle.net_model.specs.declared.format.FormatKind.{FormatKind}
@@ -45,8 +45,8 @@ done_line [] = Ok done
 done_line (next ∷ others) = Err WordCount
 
 -- a line by its first word
-abbrev pub line_by_word : Plan → List ℕ → List (List ℕ) → Result EventLine FormatKind
-line_by_word net first others =
+abbrev pub event_line_by_word : Plan → List ℕ → List (List ℕ) → Result EventLine FormatKind
+event_line_by_word net first others =
     if bytes_eq first (codes "at") then completions_line net others
     else (if bytes_eq first (codes "done") then done_line others
     else Err UnknownWord)
@@ -54,9 +54,9 @@ line_by_word net first others =
 -- a line of events
 unfoldable pub event_line : Plan → List (List ℕ) → Result EventLine FormatKind
 event_line net [] = Ok blank
-event_line net (first ∷ others) = if is_remark first then Ok blank else line_by_word net first others
+event_line net (first ∷ others) = if is_remark first then Ok blank else event_line_by_word net first others
 
 -- the answer to a line, and the completions that are kept after it
 abbrev pub AnswersEventLine : Result EventLine FormatKind → List PointId → Result Event FormatKind → List PointId → Type 0
-AnswersEventLine (Ok told) before answer after = (answer ≡ Ok (event_of told)) × (after ≡ kept told before)
+AnswersEventLine (Ok stated) before answer after = (answer ≡ Ok (event_of stated)) × (after ≡ kept stated before)
 AnswersEventLine (Err kind) before answer after = (answer ≡ Err kind) × (after ≡ before)

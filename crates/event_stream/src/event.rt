@@ -1,4 +1,6 @@
-/// What a line of events tells.
+//! The events that the lines of a stream state.
+
+/// What a line of events states.
 #[derive(Clone, Copy, Debug)]
 pub enum Event {
     /// A line without words, or whose first word begins with `#`.

@@ -1,4 +1,5 @@
-//! The lines of events by which an execution is told what was completed: one line is read at a time, without memory.
+//! The lines of events, which state the completions of an execution: one line is read at a time,
+//! without memory.
 #![tactic(auto)]
 
 mod event;
@@ -8,7 +9,7 @@ mod names;
 mod reader;
 
 pub use event::Event;
-pub use limits::{MOST_COMPLETIONS, limits_are_defined};
+pub use limits::{MOST_COMPLETIONS, law_limits_are_defined};
 pub use net_model::MOST_MOMENT;
 pub use reader::EventReader;
 pub use texts::MOST_LINE;

@@ -8,11 +8,11 @@ ghost use Rattle.event_stream.specs.Limits.{most_completions};
 use net_model::MOST_MOMENT;
 use texts::MOST_LINE;
 
-/// The number of points for which a reader keeps room: no line of so many bytes names more.
+/// The number of points for which a reader has capacity: no line of 65,536 bytes names more.
 pub const MOST_COMPLETIONS: usize = 32_768;
 
 /// The limits of the code are those of the definitions.
-pub fn limits_are_defined()
+pub fn law_limits_are_defined()
     ensures moment { MOST_MOMENT ≡ most_moment }
     ensures line { MOST_LINE ≡ most_line }
     ensures completions { MOST_COMPLETIONS ≡ most_completions }

@@ -6,7 +6,7 @@ ghost use Rattle.event_stream.specs.EventLines.{point_of, points_by_names};
 
 use net_model::{FormatKind, Network, PointId, text};
 
-/// The point that a word names: `BadName` where the word is no name, `UnknownName` where no point has it.
+/// The point that a word names: `BadName` if the word is no name, `UnknownName` if no point has it.
 pub(crate) fn point_of(net: &Network, word: &[u8]) -> Result<PointId, FormatKind>
     ensures { result ≡ point_of net.now word.now }
 {
@@ -16,7 +16,8 @@ pub(crate) fn point_of(net: &Network, word: &[u8]) -> Result<PointId, FormatKind
 
 /// Whether each word names a point, or why the first that does not does not.
 pub(crate) fn check_names(net: &Network, names: &[u8]) -> Result<(), FormatKind>
-    ensures { MatchResult result (λ _. IsOk (points_by_names net.now (words names.now))) (λ kind. points_by_names net.now (words names.now) ≡ Err kind) }
+    ensures { MatchResult result (λ _. IsOk (points_by_names net.now (words names.now)))
+        (λ kind. points_by_names net.now (words names.now) ≡ Err kind) }
 {
     let mut rest = names;
     while let Some((word, others)) = texts::next_word(rest) {

@@ -1,4 +1,4 @@
-//! A gate that is passed only where as many workers go over targets at once as there are.
+//! A gate that is passed only if as many workers go over targets at once as there are.
 
 use cell_table::CellGate;
 use std::sync::atomic::{AtomicBool, AtomicU64, Ordering};
@@ -6,11 +6,11 @@ use std::sync::atomic::{AtomicBool, AtomicU64, Ordering};
 /// How often the gate looks, at most, whether the targets that it waits for have begun.
 const TURNS: u64 = 500_000_000;
 
-/// Holds each of the first targets, as many as there are workers, until all of these have begun.
+/// Blocks each of the first targets, as many as there are workers, until all of these have begun.
 #[derive(Drop)]
 pub(crate) struct Meeting {
     workers: u64,
-    begun: AtomicU64,
+    started_count: AtomicU64,
     failed: AtomicBool,
 }
 
@@ -18,30 +18,32 @@ impl Meeting {
     pub(crate) fn of(workers: u64) -> Meeting {
         Meeting {
             workers,
-            begun: AtomicU64::new(0),
+            started_count: AtomicU64::new(0),
             failed: AtomicBool::new(false),
         }
     }
 
-    /// Looks until as many targets have begun as there are workers, for so many turns at most, and says whether they have.
+    /// Looks until as many targets have begun as there are workers, for so many turns at most, and
+    /// says whether they have.
     fn all_begin(&self) -> bool {
         for _ in 0..TURNS {
-            if self.begun.load(Ordering::SeqCst) >= self.workers {
+            if self.started_count.load(Ordering::SeqCst) >= self.workers {
                 return true;
             }
         }
         false
     }
 
-    /// Whether no target was let go before, and at least so many have begun, as in one sweep or several.
+    /// Whether no target was released before, and at least so many have begun, as in one sweep or
+    /// several.
     pub(crate) fn was_met(&self, targets: u64) -> bool {
-        !self.failed.load(Ordering::SeqCst) && self.begun.load(Ordering::SeqCst) >= targets
+        !self.failed.load(Ordering::SeqCst) && self.started_count.load(Ordering::SeqCst) >= targets
     }
 }
 
 impl CellGate for Meeting {
     fn before(&self, _target: u32) {
-        let place = self.begun.fetch_add(1, Ordering::SeqCst);
+        let place = self.started_count.fetch_add(1, Ordering::SeqCst);
         if place < self.workers && !self.all_begin() {
             self.failed.store(true, Ordering::SeqCst);
         }

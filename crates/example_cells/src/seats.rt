@@ -1,20 +1,21 @@
 //! What the seats of cells answer, and what is left of cells.
 
 ghost use Rattle.std.specs.Prelude.{◌≡◌, length};
-ghost use Rattle.cell_table.specs.Sweeping.{IsAt};
+ghost use Rattle.cell_table.specs.SweepSeats.{IsAt};
 
 use cell_table::{CellSeat, Cells};
 use example_plans::network;
 use labelled_graph::Table;
 use net_model::{Edge, LinkId, Network, PointId, Weight};
+use network_closure::over_link;
 use std::alloc::Global;
 use std::test::Fail;
-use table_closing::over_link;
 
 /// The points A, C and D have the numbers 0, 1 and 2.
 const PLAN: &str = "point A|point C|point D|bound b1 D C 1|bound b2 C D -1|link A 3 8 C";
 
-/// What is loaded of the cells of the plan: from D to C, from A to C, and from C with the label of the link.
+/// What is loaded of the cells of the plan: from D to C, from A to C, and from C with the label of
+/// the link.
 const LOADED: [Option<Weight>; 3] = [Some(1), None, Some(-8)];
 
 /// Whether the cells of the base table of a network give it back.
@@ -46,8 +47,9 @@ fn loaded(alloc: Global, net: &Network) -> Result<[Option<Weight>; 3], Fail>
     Ok([from_d, from_a, upper])
 }
 
-/// Whether what follows over the link from the edge from C to D falls when it is offered first, and does not when it is offered again.
-fn falls_once(cells: &Cells, net: &Network, seat: &mut CellSeat) -> bool
+/// Whether what follows over the link from the edge from C to D improves when its cell is relaxed
+/// first, and does not when it is relaxed again.
+fn improves_once(cells: &Cells, net: &Network, seat: &mut CellSeat) -> bool
     requires at { IsAt net.now cells.now seat.old }
     requires points { length net.now.points ≡ 3 }
 {
@@ -67,12 +69,12 @@ fn falls_once(cells: &Cells, net: &Network, seat: &mut CellSeat) -> bool
     }
 }
 
-/// Whether an edge that follows falls once at the cells of a network.
-fn an_edge_falls(alloc: Global, net: &Network) -> Result<bool, Fail>
+/// Whether an edge that follows improves exactly once at the cells of a network.
+fn an_edge_improves(alloc: Global, net: &Network) -> Result<bool, Fail>
     requires points { length net.now.points ≡ 3 }
 {
     let (cells, mut seat) = Cells::new(alloc, net, 1)?;
-    Ok(falls_once(&cells, net, &mut seat))
+    Ok(improves_once(&cells, net, &mut seat))
 }
 
 #[test]
@@ -89,6 +91,6 @@ fn seats_answer_what_they_find(rt: HostRuntime) -> Result<(), Fail> {
         return Err("the network has other points or links".into());
     }
     assert_eq!(rt; loaded(rt.alloc(), &net)?, LOADED);
-    assert!(rt; an_edge_falls(rt.alloc(), &net)?);
+    assert!(rt; an_edge_improves(rt.alloc(), &net)?);
     Ok(())
 }

@@ -9,39 +9,40 @@ use Rattle.std.proofs.lemmas.List.Folds.{concat-append}
 use Rattle.command_engine.specs.Grammars.{Next, Line, NoLine, Leads, ReadsBy, number_after}
 use Rattle.command_engine.specs.declared.machines.Stop.{Stop}
 use Rattle.command_engine.specs.declared.machines.Stop.TheVariants.{LineTooLong, InputTooMuch, InputEnded}
-use Rattle.command_engine.specs.declared.reading.Step.{Step}
-use Rattle.command_engine.specs.declared.reading.Step.TheVariants.{Goes, Gives, Refused}
+use Rattle.command_engine.specs.declared.line_texts.Parse.{Parse}
+use Rattle.command_engine.specs.declared.line_texts.Parse.TheVariants.{Continue, Parsed, Refused}
 use Rattle.command_engine.proofs.GrammarLemmas.{IsOnce, KeepsTo, reads_by}
 use Rattle.command_engine.proofs.LeadLemmas.{stands_by}
-use Rattle.example_commands.specs.Document.{DeclaresDocument, GoesOn, IsFaultOf, document_grammar, document_reader, empty_document, left_after, stops}
+use Rattle.example_commands.specs.Document.{DeclaresDocument, DocumentGoesOn, IsExampleFault, document_grammar, example_document_reader, empty_document, bytes_left_after, stops}
 use Rattle.example_commands.specs.declared.document.Document.{Document}
 use Rattle.example_commands.specs.declared.document.DocumentFault.{DocumentFault}
 
 -- ---- what is read keeps to the grammar
 abbrev Stands : List (List ℕ) → Document → Type 0
-Stands lines document = All GoesOn lines × (document ≡ record { left = left_after lines })
+Stands lines document = All DocumentGoesOn lines × (document ≡ record { left = bytes_left_after lines })
 
-step_by : Bool → Document → List ℕ → Step Document ℕ DocumentFault
-step_by ends document line = if ends then Gives document.left else Goes (record { left = document.left - length line })
+step_by : Bool → Document → List ℕ → Parse Document ℕ DocumentFault
+step_by ends document line = if ends then Parsed document.left else Continue (record { left = document.left - length line })
 
 -- one line more
-left_more : (lines : List (List ℕ)) (line : List ℕ) → left_after lines - length line ≡ left_after (lines ++ line ∷ [])
+left_more : (lines : List (List ℕ)) (line : List ℕ) → bytes_left_after lines - length line ≡ bytes_left_after (lines ++ line ∷ [])
 left_more lines line =
     let joined = ap length (concat-append lines (line ∷ [])) in
     let both = length-append (concat lines) (concat (line ∷ [])) in
     let one = ap length (append-nil line) in
     omega (arith, joined, both, one)
 
-goes_by : (ends : Bool) (lines : List (List ℕ)) (from to : Document) (line : List ℕ) → bytes_eq line (codes "end") ≡ ends → Stands lines from → step_by ends from line ≡ Goes to → Stands (lines ++ line ∷ []) to
+goes_by : (ends : Bool) (lines : List (List ℕ)) (from to : Document) (line : List ℕ) → bytes_eq line (codes "end") ≡ ends → Stands lines from → step_by ends from line ≡ Continue to → Stands (lines ++ line ∷ []) to
 unfolding step_by
 goes_by true lines from to line is stands goes = absurd (cc)
 goes_by false lines from to line is stands goes =
     let same : record { left = from.left - length line } ≡ to = cc in (
-      All-append GoesOn lines (line ∷ []) stands.0 (All-cons GoesOn line [] is (All-nil GoesOn)),
+      All-append DocumentGoesOn lines (line ∷ []) stands.0 (All-cons DocumentGoesOn line [] is (All-nil DocumentGoesOn)),
       sym same ∙ (ap (λ (d : Document). record { left = d.left - length line }) stands.1 ∙ ap (λ (n : ℕ). record { left = n }) (left_more lines line)),
     )
 
-gives_by : (ends : Bool) (lines : List (List ℕ)) (from : Document) (line : List ℕ) (left : ℕ) (others : List (List ℕ)) → bytes_eq line (codes "end") ≡ ends → Stands lines from → step_by ends from line ≡ Gives left → DeclaresDocument (lines ++ line ∷ others) left others
+gives_by : (ends : Bool) (lines : List (List ℕ)) (from : Document) (line : List ℕ) (left : ℕ) (others : List (List ℕ)) → bytes_eq line (codes "end") ≡ ends → Stands lines from → step_by ends from line ≡ Parsed left
+    → DeclaresDocument (lines ++ line ∷ others) left others
 unfolding step_by
 gives_by false lines from line left others is stands gives = absurd (cc)
 gives_by true lines from line left others is stands gives =
@@ -60,64 +61,65 @@ unfolding step_by
 never_refused true from line fault refuses = cc
 never_refused false from line fault refuses = cc
 
-fault_is : (document : Document) (number : ℕ) (stop : Stop) → IsFaultOf (NoLine stop) (stops document number stop)
+fault_is : (document : Document) (number : ℕ) (stop : Stop) → IsExampleFault (NoLine stop) (stops document number stop)
 fault_is document number InputEnded = refl
 fault_is document number LineTooLong = refl
 fault_is document number InputTooMuch = refl
 
 -- ---- the grammar says one thing
-not_both : (line : List ℕ) → GoesOn line → IsTrue (bytes_eq line (codes "end")) → ⊥
+not_both : (line : List ℕ) → DocumentGoesOn line → IsTrue (bytes_eq line (codes "end")) → ⊥
 not_both line goes ends = let both : false ≡ true = sym goes ∙ ends in absurd (cc both)
 
 -- no line of lines that go on ends a document
-none_ends : (lines front : List (List ℕ)) (last : List ℕ) (rest : List (List ℕ)) → All GoesOn lines → lines ≡ front ++ last ∷ rest → IsTrue (bytes_eq last (codes "end")) → ⊥
+none_ends : (lines prefix : List (List ℕ)) (last : List ℕ) (rest : List (List ℕ)) → All DocumentGoesOn lines → lines ≡ prefix ++ last ∷ rest → IsTrue (bytes_eq last (codes "end")) → ⊥
 none_ends [] [] last rest all whole ends = absurd (cc)
-none_ends [] (line ∷ front) last rest all whole ends = absurd (cc)
+none_ends [] (line ∷ prefix) last rest all whole ends = absurd (cc)
 none_ends (line ∷ lines) [] last rest all whole ends =
     let head : line ≡ last = cc in
-    not_both last (subst GoesOn head (All-head GoesOn line lines all)) ends
-none_ends (line ∷ lines) (other ∷ front) last rest all whole ends =
-    let tail : lines ≡ front ++ last ∷ rest = cc in
-    none_ends lines front last rest (All-tail GoesOn line lines all) tail ends
+    not_both last (subst DocumentGoesOn head (All-head DocumentGoesOn line lines all)) ends
+none_ends (line ∷ lines) (other ∷ prefix) last rest all whole ends =
+    let tail : lines ≡ prefix ++ last ∷ rest = cc in
+    none_ends lines prefix last rest (All-tail DocumentGoesOn line lines all) tail ends
 
 -- lines divide in one place
-one_place : (front other : List (List ℕ)) (last end : List ℕ) (rest after : List (List ℕ)) → All GoesOn front → All GoesOn other → IsTrue (bytes_eq last (codes "end")) → IsTrue (bytes_eq end (codes "end")) → front ++ last ∷ rest ≡ other ++ end ∷ after → (front ≡ other) × (rest ≡ after)
+one_place : (prefix other : List (List ℕ)) (last end : List ℕ) (rest after : List (List ℕ)) → All DocumentGoesOn prefix → All DocumentGoesOn other → IsTrue (bytes_eq last (codes "end")) → IsTrue (bytes_eq end (codes "end"))
+    → prefix ++ last ∷ rest ≡ other ++ end ∷ after → (prefix ≡ other) × (rest ≡ after)
 one_place [] [] last end rest after all also ends too whole = let tail : rest ≡ after = cc in (refl, tail)
 one_place [] (line ∷ other) last end rest after all also ends too whole =
     let head : line ≡ last = cc in
-    absurd (not_both last (subst GoesOn head (All-head GoesOn line other also)) ends)
-one_place (line ∷ front) [] last end rest after all also ends too whole =
+    absurd (not_both last (subst DocumentGoesOn head (All-head DocumentGoesOn line other also)) ends)
+one_place (line ∷ prefix) [] last end rest after all also ends too whole =
     let head : line ≡ end = cc in
-    absurd (not_both end (subst GoesOn head (All-head GoesOn line front all)) too)
-one_place (line ∷ front) (next ∷ other) last end rest after all also ends too whole =
+    absurd (not_both end (subst DocumentGoesOn head (All-head DocumentGoesOn line prefix all)) too)
+one_place (line ∷ prefix) (next ∷ other) last end rest after all also ends too whole =
     let head : line ≡ next = cc in
-    let tail : front ++ last ∷ rest ≡ other ++ end ∷ after = cc in
-    let same = one_place front other last end rest after (All-tail GoesOn line front all) (All-tail GoesOn next other also) ends too tail in
+    let tail : prefix ++ last ∷ rest ≡ other ++ end ∷ after = cc in
+    let same = one_place prefix other last end rest after (All-tail DocumentGoesOn line prefix all) (All-tail DocumentGoesOn next other also) ends too tail in
     let one = same.0 in
     (cc, same.1)
 
 one_value : (lines : List (List ℕ)) (left other : ℕ) (rest after : List (List ℕ)) → DeclaresDocument lines left rest → DeclaresDocument lines other after → (left ≡ other) × (rest ≡ after)
 one_value lines left other rest after is also =
     let same = one_place is.document also.document is.last also.last rest after is.goes_on also.goes_on is.ends also.ends (sym is.whole ∙ also.whole) in
-    (is.leaves ∙ (ap left_after same.0 ∙ sym also.leaves), same.1)
+    (is.leaves ∙ (ap bytes_left_after same.0 ∙ sym also.leaves), same.1)
 
-stop_once : (stop : Stop) (a b : DocumentFault) → IsFaultOf (NoLine stop) a → IsFaultOf (NoLine stop) b → a ≡ b
+stop_once : (stop : Stop) (a b : DocumentFault) → IsExampleFault (NoLine stop) a → IsExampleFault (NoLine stop) b → a ≡ b
 stop_once InputEnded a b is also = is ∙ sym also
 stop_once LineTooLong a b is also = is ∙ sym also
 stop_once InputTooMuch a b is also = is ∙ sym also
 
-fault_once : (next : Next) (a b : DocumentFault) → IsFaultOf next a → IsFaultOf next b → a ≡ b
+fault_once : (next : Next) (a b : DocumentFault) → IsExampleFault next a → IsExampleFault next b → a ≡ b
 fault_once (Line line) a b is also = absurd is
 fault_once (NoLine stop) a b is also = stop_once stop a b is also
 
 module _ (past : ℕ) where
-  stands : (lines : List (List ℕ)) (state : Document) → Leads document_reader empty_document past lines state → Stands lines state
+  stands : (lines : List (List ℕ)) (state : Document) → Leads example_document_reader empty_document past lines state → Stands lines state
   unfolding step_by
   stands lines state leads =
-      stands_by document_reader empty_document past Stands (All-nil GoesOn, refl)
+      stands_by example_document_reader empty_document past Stands (All-nil DocumentGoesOn, refl)
       (λ before from to next there goes. goes_by (bytes_eq next (codes "end")) before from to next refl there goes) lines state leads
 
-  keeps_to : KeepsTo document_reader empty_document past (document_grammar past)
+  keeps_to : KeepsTo example_document_reader empty_document past (document_grammar past)
   unfolding step_by
   keeps_to = record {
     longest = λ lines state leads. let there = stands lines state leads in (there.0, ap (λ (d : Document). d.left) there.1);
@@ -131,11 +133,11 @@ module _ (past : ℕ) where
     one_value = one_value;
     one_longest = λ lines a b is also. is.1 ∙ sym also.1;
     one_fault = λ lines next a b is also. fault_once next a b is.1 also.1;
-    refused_wanted = λ lines next fault refuses. (left_after lines, (refuses.0, refl));
+    refused_wanted = λ lines next fault refuses. (bytes_left_after lines, (refuses.0, refl));
     value_not_wanted = λ lines left rest longest is wanted. none_ends lines is.document is.last rest wanted.0 is.whole is.ends;
-    value_not_refused = λ front line others left rest fault is refuses. refuses.1;
-    wanted_not_refused = λ front line others longest fault wanted refuses. refuses.1;
+    value_not_refused = λ prefix line others left rest fault is refuses. refuses.1;
+    wanted_not_refused = λ prefix line others longest fault wanted refuses. refuses.1;
   }
 
-  pub document_by : ReadsBy document_reader empty_document past (document_grammar past)
-  document_by = reads_by document_reader empty_document past (document_grammar past) keeps_to once
+  pub document_by : ReadsBy example_document_reader empty_document past (document_grammar past)
+  document_by = reads_by example_document_reader empty_document past (document_grammar past) keeps_to once

@@ -1,4 +1,4 @@
-pub mod Counting
+pub mod CountedText
 pub mod Document
 pub mod Tally
-pub mod Desk
+pub mod TallyCommand

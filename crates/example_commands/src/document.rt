@@ -1,9 +1,12 @@
-//! A text of which all lines together have a limit, and whose faults have no line: any lines, then `end`. And a question about it.
+//! A text of which all lines together have a limit, and whose faults have no line: any lines, then
+//! `end`. And a question about it.
 
 ghost use Rattle.std.specs.Prelude.{◌≡◌, ◌-◌, length};
-ghost use Rattle.example_commands.specs.Document.{AnswersHowLarge, document_grammar, document_reader, empty_document, refusing};
+ghost use Rattle.example_commands.specs.Document.{AnswersHowLarge, document_grammar};
+ghost use Rattle.example_commands.specs.Document.{example_document_reader, empty_document};
+ghost use Rattle.example_commands.specs.Document.{refusing};
 
-use command_engine::{Answer, End, InGrammar, Question, Refusal, Step, Stop, Text, Word};
+use command_engine::{Answer, End, InGrammar, Parse, Question, Refusal, Stop, Text, Word};
 use std::alloc::{AllocError, Global};
 use std::thread::Threads;
 
@@ -52,7 +55,7 @@ impl Text for Document {
 
     type Fault = DocumentFault;
 
-    ghost reader = { document_reader };
+    ghost reader = { example_document_reader };
 
     fn longest(&self) -> u32 {
         self.left
@@ -63,11 +66,11 @@ impl Text for Document {
         _alloc: Global,
         _number: u32,
         line: &[u8],
-    ) -> Result<Step<Document, u32, DocumentFault>, AllocError> {
+    ) -> Result<Parse<Document, u32, DocumentFault>, AllocError> {
         if line == b"end".as_slice() {
-            return Ok(Step::Gives(self.left));
+            return Ok(Parse::Parsed(self.left));
         }
-        Ok(Step::Goes(self.after(line)))
+        Ok(Parse::Continue(self.after(line)))
     }
 
     fn stop(&self, _number: u32, stop: Stop) -> DocumentFault {
@@ -79,7 +82,7 @@ impl Text for Document {
 }
 
 impl InGrammar for Document {
-    ghost beginning = { empty_document };
+    ghost initial_text = { empty_document };
 
     ghost grammar = { document_grammar };
 

@@ -1,18 +1,18 @@
 //! Runs of the examples over a port in memory.
 
-use crate::counting::{AtMost, Counting, HowMany, HowManyEach};
-use crate::desk::Desk;
+use crate::counted_text::{AtMost, Counting, HowMany, HowManyEach};
 use crate::document::{Document, HowLarge};
 use crate::tally::{FromCount, Tally};
-use command_engine::{Asked, Status, Tested, TextThenPhase, Then, serve};
+use crate::tally_command::TallyCommand;
+use command_engine::{AnswersOnce, Status, Tested, TextThenPhase, Then, serve};
 use plan_port::MemoryPort;
 use std::alloc::{AllocError, Global};
 use std::process::Abort;
 use std::test::Fail;
 use std::thread::Threads;
 
-// Each row: the command, the input, how many bytes each take gives at most (0: no bound), the take and the put that fail (0:
-// none), what is put, and the exit status. `/` stands for a line end.
+// Each row: the command, the input, how many bytes each take gives at most (0: no bound), the take
+// and the put that fail (0: none), what is put, and the exit status. `/` stands for a line end.
 const ROWS: &str = "\
 ask|count/a/b/end/more/|0|0|0|lines 4/|0
 ask|count/a/b/end|1|0|0|lines 4/|0
@@ -43,7 +43,7 @@ few|count/a/|0|0|0|error no-end 3/|3";
 
 // A row of the table.
 #[derive(Drop)]
-struct Row<'a> {
+struct RunRow<'a> {
     command: &'a str,
     input: &'a str,
     cut: u32,
@@ -57,9 +57,9 @@ fn number(word: &str) -> u32 {
     word.parse::<u32>().unwrap_or(0)
 }
 
-fn row_of(line: &str) -> Option<Row<'_>> {
+fn row_of(line: &str) -> Option<RunRow<'_>> {
     let mut words = line.split('|');
-    Some(Row {
+    Some(RunRow {
         command: words.next()?,
         input: words.next()?,
         cut: number(words.next()?),
@@ -77,7 +77,7 @@ fn bytes_of(alloc: Global, text: &str) -> Result<Vec<u8>, AllocError> {
         .collect(alloc)
 }
 
-fn port_for(alloc: Global, row: &Row<'_>) -> Result<MemoryPort, AllocError> {
+fn port_for(alloc: Global, row: &RunRow<'_>) -> Result<MemoryPort, AllocError> {
     let cuts = vec![in alloc; row.cut; 64]?;
     let failing_takes = vec![in alloc; row.failing_take; 1]?;
     let failing_puts = vec![in alloc; row.failing_put; 1]?;
@@ -85,12 +85,17 @@ fn port_for(alloc: Global, row: &Row<'_>) -> Result<MemoryPort, AllocError> {
     Ok(MemoryPort::new(alloc, input, cuts, failing_takes, failing_puts))
 }
 
-fn run(rt: &(impl Threads + Sync), alloc: Global, row: &Row<'_>, port: &mut MemoryPort) -> Status {
+fn run(
+    rt: &(impl Threads + Sync),
+    alloc: Global,
+    row: &RunRow<'_>,
+    port: &mut MemoryPort,
+) -> Status {
     match row.command {
         "ask" => serve(
             rt,
             alloc,
-            Asked {
+            AnswersOnce {
                 question: HowMany,
                 text: Counting::BeforeTitle,
             },
@@ -99,7 +104,7 @@ fn run(rt: &(impl Threads + Sync), alloc: Global, row: &Row<'_>, port: &mut Memo
         "document" => serve(
             rt,
             alloc,
-            Asked {
+            AnswersOnce {
                 question: HowLarge,
                 text: Document::new(),
             },
@@ -108,7 +113,7 @@ fn run(rt: &(impl Threads + Sync), alloc: Global, row: &Row<'_>, port: &mut Memo
         "each" => serve(
             rt,
             alloc,
-            Asked {
+            AnswersOnce {
                 question: HowManyEach,
                 text: Then::First(Counting::BeforeTitle, Counting::BeforeTitle),
             },
@@ -117,7 +122,7 @@ fn run(rt: &(impl Threads + Sync), alloc: Global, row: &Row<'_>, port: &mut Memo
         "few" => serve(
             rt,
             alloc,
-            Asked {
+            AnswersOnce {
                 question: HowMany,
                 text: Tested {
                     text: Counting::BeforeTitle,
@@ -126,7 +131,7 @@ fn run(rt: &(impl Threads + Sync), alloc: Global, row: &Row<'_>, port: &mut Memo
             },
             port,
         ),
-        "desk" => serve(rt, alloc, Desk::Open(0), port),
+        "desk" => serve(rt, alloc, TallyCommand::Open(0), port),
         _ => {
             let tally: TextThenPhase<FromCount, Counting, Tally> = TextThenPhase::Reading(
                 FromCount,
@@ -156,8 +161,8 @@ fn rows_are_answered(rt: HostRuntime) -> Result<(), Fail> {
     Ok(())
 }
 
-// Each row: how many bytes the lines of a document have before `end`, how many bytes each take gives at most, what is put, and the exit
-// status.
+// Each row: how many bytes the lines of a document have before `end`, how many bytes each take
+// gives at most, what is put, and the exit status.
 const LONG_ROWS: &str = "\
 70000|0|left 30000/|0
 60000 39000|4096|left 1000/|0
@@ -191,11 +196,11 @@ fn check_document(
     let input = document_of(alloc, sizes)?;
     let mut port = MemoryPort::new(alloc, input, cuts, Vec::new(alloc), Vec::new(alloc));
     let text = Document::new();
-    let asked = Asked {
+    let query = AnswersOnce {
         question: HowLarge,
         text,
     };
-    let ended = serve(rt, alloc, asked, &mut port);
+    let ended = serve(rt, alloc, query, &mut port);
     assert_eq!(rt; port.written(), output.as_slice(), "{line}");
     assert_eq!(rt; u32::from(ended.number()), status, "{line}");
     Ok(())

@@ -4,7 +4,7 @@ ghost use Rattle.std.specs.Prelude.{◌≡◌, ℕ, codes};
 ghost use Rattle.std.specs.Str.{bytes_eq};
 ghost use Rattle.example_commands.specs.Tally.{tally_machine, Begins};
 
-use command_engine::{Answer, Begin, Command, End, Onward, Stop, Word};
+use command_engine::{Answer, Begin, Command, End, Flow, Stop, Word};
 use plan_port::MOST_LINE;
 use std::alloc::{AllocError, Global};
 use std::thread::Threads;
@@ -32,13 +32,13 @@ impl Command for Tally {
         answer: &mut Answer,
         number: u32,
         line: &[u8],
-    ) -> Result<Onward<Tally>, AllocError> {
+    ) -> Result<Flow<Tally>, AllocError> {
         if line == b"stop".as_slice() {
-            return Ok(Onward::Ends(End::Done));
+            return Ok(Flow::Finish(End::Done));
         }
         let from = Word::Number(u64::from(self.from));
         answer.put_line(&[Word::Text("at"), from, Word::Number(u64::from(number))]);
-        Ok(Onward::Goes(self))
+        Ok(Flow::Continue(self))
     }
 
     fn stop(&self, answer: &mut Answer, number: u32, _stop: Stop) -> End {
@@ -63,9 +63,9 @@ impl Begin<u32> for FromCount {
         _alloc: Global,
         answer: &mut Answer,
         lines: u32,
-    ) -> Result<Onward<Tally>, AllocError> {
+    ) -> Result<Flow<Tally>, AllocError> {
         answer.push_line(&[Word::Text("from"), Word::Number(u64::from(lines))])?;
         answer.reserve(MOST_TALLY)?;
-        Ok(Onward::Goes(Tally { from: lines }))
+        Ok(Flow::Continue(Tally { from: lines }))
     }
 }

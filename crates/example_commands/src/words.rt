@@ -1,3 +1,5 @@
+//! What lists of words mean to the syntax of two commands, as rows.
+
 ghost use Rattle.std.specs.Prelude.{◌≡◌, true};
 ghost use Rattle.command_words.specs.Syntax.{is_sound};
 
@@ -5,7 +7,8 @@ use command_words::{Arguments, Syntax, read};
 use std::alloc::{AllocError, Global};
 use std::test::Fail;
 
-/// Words of `draw` and of `list`, a row a list: the words with a blank between two, ` => ` and what they give to the command, or `none`.
+/// Words of `draw` and of `list`, a row a list: the words with a blank between two, ` => ` and what
+/// they give to the command, or `none`.
 const ROWS: &str = "\
 draw a b => [false, false] [None, None] [\"a\", \"b\"]
 draw --json a --workers 4 b --proof => [true, true] [Some(\"4\"), None] [\"a\", \"b\"]
@@ -115,8 +118,8 @@ fn answer(alloc: Global, row: &str) -> Result<String, AllocError> {
 fn words(rt: HostRuntime) -> Result<(), Fail> {
     for row in ROWS.split('\n') {
         let (words, wanted) = row.split_once(" => ").ok_or("a row")?;
-        let told = answer(rt.alloc(), words)?;
-        assert_eq!(rt; told.as_str(), wanted, "{words}");
+        let result_text = answer(rt.alloc(), words)?;
+        assert_eq!(rt; result_text.as_str(), wanted, "{words}");
     }
     Ok(())
 }

@@ -3,7 +3,7 @@
 ghost use Rattle.std.specs.Prelude.{◌≡◌, IfOk};
 ghost use Rattle.strategy_model.specs.Situations.{IsSituation};
 ghost use Rattle.dispatch_net.specs.OfClosure.{IsDispatchOfClosure};
-ghost use Rattle.situation_player.specs.Playing.{IsStartedByClosure};
+ghost use Rattle.situation_player.specs.PlayedDays.{IsStartedByClosure};
 
 use dispatch_net::Dispatch;
 use example_plans::network;
@@ -18,7 +18,8 @@ use std::test::Fail;
 use std::thread::Threads;
 use strategy_model::Situation;
 
-/// Plans, each with its days: the shortest, the longest or that of a number, the durations of the links, and the moments of the points.
+/// Plans, each with its days: the shortest, the longest or that of a number, the durations of the
+/// links, and the moments of the points.
 const DAYS: [(&str, &str); 4] = [
     (
         "point A1|point C1|point A2|point C2|bound b1 C1 C2 2|link A1 1 3 C1|link A2 2 6 C2",
@@ -59,14 +60,14 @@ fn try_days(
 ) -> Result<(), Fail> {
     for expected in days.lines() {
         let which = expected.split(':').next().unwrap_or("");
-        let day = told(rt, alloc, plan, which)?;
+        let day = reported(rt, alloc, plan, which)?;
         assert_eq!(rt; day.as_str(), expected, "{plan}");
     }
     Ok(())
 }
 
 /// A day of a plan: which it is, the durations of its links, and the moments of its points.
-fn told(
+fn reported(
     rt: &(impl Threads + Sync),
     alloc: Global,
     plan: &str,
@@ -95,7 +96,8 @@ fn day(alloc: Global, net: &Network, dispatch: Dispatch, which: &str) -> Result<
     Ok(text)
 }
 
-/// The execution of a network without a delay on what no others imply of the dispatchable network of its closure.
+/// The execution of a network without a delay on what no others imply of the dispatchable network
+/// of its closure.
 fn start(alloc: Global, net: &Network, dispatch: Dispatch) -> Result<Executor, Fail>
     requires of { IsDispatchOfClosure net.now dispatch }
     requires no_delay { net.now.delay ≡ 0 }

@@ -2,10 +2,10 @@
 #![tactic(auto)]
 
 #[cfg(test)]
-mod counted;
+mod deadline_text;
 #[cfg(test)]
 mod deadlines;
 #[cfg(test)]
 mod names;
 #[cfg(test)]
-mod printing;
+mod trial_counts;

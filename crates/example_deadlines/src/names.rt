@@ -1,6 +1,6 @@
 //! Plans with many bounds.
 
-use crate::printing::printed_between;
+use crate::deadline_text::printed_between;
 use example_plans::network;
 use parallel_rounds::NoGate;
 use std::alloc::Global;
@@ -18,7 +18,7 @@ fn with_bounds(alloc: Global, bounds: u32) -> Result<String, Fail> {
 }
 
 #[test]
-fn full_plan_has_no_room(rt: HostRuntime) -> Result<(), Fail> {
+fn full_plan_has_no_capacity(rt: HostRuntime) -> Result<(), Fail> {
     let alloc = rt.alloc();
     let lines = with_bounds(alloc, 20_000)?;
     let net = network(alloc, lines.as_str())?;

@@ -1,11 +1,13 @@
 //! Steps at a desk, one after another: posts, reads, and an executor that follows.
 
 ghost use Rattle.std.specs.Prelude.{◌≡◌, ◌<◌, length, IfOk, OnOk};
-ghost use Rattle.sensor_desk.specs.Desks.{IsSeatOf};
-ghost use Rattle.sensor_desk.specs.Following.{IsExecutionFor};
+ghost use Rattle.sensor_desk.specs.Desks.{IsSeatOfDesk};
+ghost use Rattle.sensor_desk.specs.Follower.{IsExecutionFor};
 
+use crate::answer_words::{
+    AnswerWords, push_answer_words, words_of_closing, words_of_finished, words_of_followed,
+};
 use crate::executors::start;
-use crate::told::{Told, push_told, told_closing, told_finished, told_followed};
 use example_plans::network;
 use live_executor::Executor;
 use net_model::{LinkId, Network, PointId};
@@ -26,8 +28,9 @@ const TWO: &str =
 /// A plan of one link, whose points are A, C and D.
 const ONE: &str = "point A|point C|point D|bound b1 D C 4|link A 3 8 C";
 
-/// Plans, each with steps at its desk and with what each is answered, and with the end of the desk. A step is a post of a moment for a
-/// link, a read of a link, a moment at which an executor follows, or its end. Links and points stand by their numbers.
+/// Plans, each with steps at its desk, the answer to each, and the end of the desk. A step is a
+/// post of a moment for a link, a read of a link, a moment at which an executor follows, or its
+/// end. Links and points stand by their numbers.
 const DAYS: [(&str, &str, &str); 9] = [
     (
         TWO,
@@ -132,9 +135,9 @@ fn said_at(
 {
     let (desk, mut seat) = Desk::new(alloc, net, 1)?;
     take_steps(alloc, &desk, &mut seat, net, &mut executor, steps, said)?;
-    let closed = told_closing(desk.close(seat, net, &executor));
+    let closed = words_of_closing(desk.close(seat, net, &executor));
     let mut text = String::new(alloc);
-    push_told(alloc, &mut text, closed)?;
+    push_answer_words(alloc, &mut text, closed)?;
     Ok(text)
 }
 
@@ -148,9 +151,9 @@ fn take_steps(
     said: &mut String,
 ) -> Result<(), Fail>
     requires net { desk.now.about.net.value ≡ net.now }
-    requires seat { IsSeatOf desk.now seat.old }
+    requires seat { IsSeatOfDesk desk.now seat.old }
     requires executor { IsExecutionFor net.now executor.old }
-    ensures seat { OnOk result (IsSeatOf desk.now seat.new) }
+    ensures seat { OnOk result (IsSeatOfDesk desk.now seat.new) }
     ensures executor { OnOk result (IsExecutionFor net.now executor.new) }
 {
     let mut room = vec![in alloc; PointId(0); net.links().len()]?;
@@ -161,13 +164,13 @@ fn take_steps(
         let step = line.split(" = ").next().unwrap_or("");
         said.push_str(step)?;
         said.push_str(" = ")?;
-        let told = take_step(desk, seat, net, executor, room.as_mut_slice(), step)?;
-        push_told(alloc, said, told)?;
+        let reported = take_step(desk, seat, net, executor, room.as_mut_slice(), step)?;
+        push_answer_words(alloc, said, reported)?;
     }
     Ok(())
 }
 
-/// Takes a step, and tells its answer.
+/// Takes a step, and gives its answer.
 fn take_step(
     desk: &Desk,
     seat: &mut DeskSeat,
@@ -175,12 +178,12 @@ fn take_step(
     executor: &mut Executor,
     room: &mut [PointId],
     step: &str,
-) -> Result<Told, Fail>
+) -> Result<AnswerWords, Fail>
     requires net { desk.now.about.net.value ≡ net.now }
-    requires seat { IsSeatOf desk.now seat.old }
+    requires seat { IsSeatOfDesk desk.now seat.old }
     requires executor { IsExecutionFor net.now executor.old }
     requires room { length room.old ≡ length net.now.links }
-    ensures seat { IsSeatOf desk.now seat.new }
+    ensures seat { IsSeatOfDesk desk.now seat.new }
     ensures executor { IsExecutionFor net.now executor.new }
     ensures room { length room.new ≡ length room.old }
 {
@@ -190,9 +193,9 @@ fn take_step(
         Some("read") => read(desk, seat, net, &mut words),
         Some("follow") => {
             let moment = number_in(&mut words)?;
-            Ok(told_followed(desk.follow(seat, net, executor, moment, room)))
+            Ok(words_of_followed(desk.follow(seat, net, executor, moment, room)))
         }
-        Some("finish") => Ok(told_finished(executor.finish())),
+        Some("finish") => Ok(words_of_finished(executor.finish())),
         _ => Err(Fail::from("no step")),
     }
 }
@@ -202,10 +205,10 @@ fn post(
     seat: &mut DeskSeat,
     net: &Network,
     words: &mut SplitWhitespace,
-) -> Result<Told, Fail>
+) -> Result<AnswerWords, Fail>
     requires net { desk.now.about.net.value ≡ net.now }
-    requires seat { IsSeatOf desk.now seat.old }
-    ensures { IsSeatOf desk.now seat.new }
+    requires seat { IsSeatOfDesk desk.now seat.old }
+    ensures { IsSeatOfDesk desk.now seat.new }
 {
     let link = link_in(net, words)?;
     let moment = number_in(words)?;
@@ -213,8 +216,8 @@ fn post(
         return Err(Fail::from("no moment"));
     }
     match desk.post(seat, link, moment) {
-        Posted::First => Ok(Told::word("first")),
-        Posted::Before(moment) => Ok(Told::at("before", moment)),
+        Posted::First => Ok(AnswerWords::word("first")),
+        Posted::Before(moment) => Ok(AnswerWords::at("before", moment)),
     }
 }
 
@@ -223,15 +226,15 @@ fn read(
     seat: &mut DeskSeat,
     net: &Network,
     words: &mut SplitWhitespace,
-) -> Result<Told, Fail>
+) -> Result<AnswerWords, Fail>
     requires net { desk.now.about.net.value ≡ net.now }
-    requires seat { IsSeatOf desk.now seat.old }
-    ensures { IsSeatOf desk.now seat.new }
+    requires seat { IsSeatOfDesk desk.now seat.old }
+    ensures { IsSeatOfDesk desk.now seat.new }
 {
     let link = link_in(net, words)?;
     match desk.read(seat, link) {
-        None => Ok(Told::word("none")),
-        Some(moment) => Ok(Told::at("posted", moment)),
+        None => Ok(AnswerWords::word("none")),
+        Some(moment) => Ok(AnswerWords::at("posted", moment)),
     }
 }
 

@@ -1,16 +1,16 @@
 //! The executor of a network that is dispatched by its closure.
 
 ghost use Rattle.std.specs.Prelude.{◌≡◌, IfOk};
-ghost use Rattle.sensor_desk.specs.Following.{IsExecutionFor};
-ghost use Rattle.table_closing.specs.Closing.{IsClosedBy};
+ghost use Rattle.sensor_desk.specs.Follower.{IsExecutionFor};
+ghost use Rattle.network_closure.specs.Saturation.{IsClosedBy};
 
 use dispatch_net::Dispatch;
 use live_executor::Executor;
 use net_model::Network;
+use network_closure::{Closed, close};
 use std::alloc::{AllocError, Global};
 use std::test::Fail;
 use std::thread::Threads;
-use table_closing::{Closed, close};
 
 /// The executor of a network without a delay, at its start.
 pub(crate) fn start(

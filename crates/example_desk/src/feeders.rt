@@ -1,8 +1,8 @@
-//! Feeders that post at once.
+//! Feeders that post concurrently.
 
 ghost use Rattle.std.specs.Prelude.{◌≡◌, ◌<◌, ◌≤◌, length, IfOk, OnOk};
 ghost use Rattle.std.specs.List.{All};
-ghost use Rattle.sensor_desk.specs.Desks.{IsSeatOf};
+ghost use Rattle.sensor_desk.specs.Desks.{IsSeatOfDesk};
 
 use crate::gates::Meeting;
 use example_plans::network;
@@ -19,11 +19,12 @@ const PLAN: &str =
 
 /// A feeder for each seat that may be split from the first one.
 fn feeders_of(alloc: Global, desk: &Desk, seat: &mut DeskSeat) -> Result<Vec<Feeder>, AllocError>
-    requires seat { IsSeatOf desk.now seat.old }
+    requires seat { IsSeatOfDesk desk.now seat.old }
     requires some { 0 < seat.old.view.to_split }
-    ensures seat { OnOk result (IsSeatOf desk.now seat.new) }
+    ensures seat { OnOk result (IsSeatOfDesk desk.now seat.new) }
     ensures some { IfOk result (λ feeders. 0 < length feeders.items) }
-    ensures seats { IfOk result (λ feeders. All (λ feeder. IsSeatOf desk.now feeder.seat) feeders.items) }
+    ensures seats { IfOk result (λ feeders. All (λ feeder. IsSeatOfDesk desk.now feeder.seat)
+        feeders.items) }
 {
     let mut feeders = Vec::new(alloc);
     while seat.to_split() > 0 {
@@ -33,7 +34,7 @@ fn feeders_of(alloc: Global, desk: &Desk, seat: &mut DeskSeat) -> Result<Vec<Fee
     Ok(feeders)
 }
 
-/// Whether each feeder met a moment at its first place, and those without a place none.
+/// Whether each feeder found a moment at its first place, and those without a place none.
 fn all_met_first(feeders: &[Feeder], places: usize) -> bool {
     for (place, feeder) in feeders.iter().enumerate() {
         if !is_met(feeder, place, places) {
@@ -50,7 +51,8 @@ fn is_met(feeder: &Feeder, place: usize, places: usize) -> bool {
     }
 }
 
-/// All feeders post a moment, the first two at once where there are two, and then a later one, which each meets at its first place.
+/// All feeders post a moment, the first two at once if there are two, and then a later one, which
+/// each finds at its first place.
 fn try_posts<R: Abort + Threads + Sync>(
     rt: &R,
     desk: &Desk,
@@ -58,9 +60,9 @@ fn try_posts<R: Abort + Threads + Sync>(
     feeders: &mut [Feeder],
 )
     requires two { length desk.now.about.net.value.links ≡ 2 }
-    requires seat { IsSeatOf desk.now seat.old }
+    requires seat { IsSeatOfDesk desk.now seat.old }
     requires some { 0 < length feeders.old }
-    requires seats { All (λ feeder. IsSeatOf desk.now feeder.seat) feeders.old }
+    requires seats { All (λ feeder. IsSeatOfDesk desk.now feeder.seat) feeders.old }
 {
     let links = [LinkId(0), LinkId(1), LinkId(0), LinkId(1)];
     let gate = Meeting::of(feeders.len().min(2) as u64);

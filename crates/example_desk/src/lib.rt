@@ -1,6 +1,9 @@
-//! Desks of sensors, tried as tests: what posts, reads and follows are answered, and posts that are open at once.
+//! Desks of sensors, tried as tests: the answers to posts, reads and follows, and posts that are
+//! open at once.
 #![tactic(auto)]
 
+#[cfg(test)]
+mod answer_words;
 #[cfg(test)]
 mod days;
 #[cfg(test)]
@@ -9,5 +12,3 @@ mod executors;
 mod feeders;
 #[cfg(test)]
 mod gates;
-#[cfg(test)]
-mod told;

@@ -4,9 +4,9 @@ use Rattle.std.specs.Prelude.{IsSome}
 use Rattle.std.specs.List.{All}
 use Rattle.net_model.specs.Moments.{Moments}
 use Rattle.execution_model.specs.Execution.{Setting, acts_at, acted, time_runs, acts_while}
-use Rattle.execution_model.specs.Feeding.{Execution, next_moment, last_of, IsWhole}
-use Rattle.execution_model.specs.declared.feeding.Act.{Act}
-use Rattle.execution_model.specs.declared.feeding.Why.{Why}
+use Rattle.execution_model.specs.Feeds.{Execution, next_moment, last_of, IsWhole}
+use Rattle.execution_model.specs.declared.feed_answers.Act.{Act}
+use Rattle.execution_model.specs.declared.feed_answers.Why.{Why}
 
 one_less : (t until : ℕ) → t < until → until - t ≡ suc (until - (t + 1))
 one_less t until less = omega arith

@@ -1,6 +1,6 @@
-//! Drawn days: the executor, on slim lists, against the slow one on whole lists.
+//! Drawn days: the executor, on slim lists, compared with the slow one on whole lists.
 
-use crate::compared::{Departures, Draws, try_stream};
+use crate::comparison::{Departures, Draws, try_stream};
 use crate::plans::network;
 use crate::refusals::Refusals;
 use execution_model::Why;
@@ -66,8 +66,8 @@ fn joined(alloc: Global, day: &Day) -> Result<String, Fail> {
     Ok(format!(in alloc; "{}{}{}", day.points, day.bounds, day.links)?)
 }
 
-/// A task: after the morning or an earlier task, with a duration that is chosen or of nature's choice; and a point that comes at most some
-/// moments before its end, which then has to wait for it.
+/// A task: after the morning or an earlier task, with a duration that is chosen or contingent; and
+/// a point that comes at most some moments before its end, which then has to wait for it.
 fn push_task(alloc: Global, day: &mut Day, task: u64, draws: &mut Draws) -> Result<(), Fail> {
     push_points(alloc, day, task)?;
     push_start(alloc, day, task, draws)?;

@@ -1,11 +1,12 @@
-//! Executions over streams of completions, tried as tests: an executor that steps through every moment, on lists, whose contracts are
-//! the definitions; tables of streams; and the executor against the slow one on many streams.
+//! Executions over streams of completions, tried as tests: an executor that steps through every
+//! moment, on lists, whose contracts are the definitions; tables of streams; and the executor
+//! compared with the slow one on many streams.
 #![tactic(auto)]
 
 #[cfg(test)]
-mod compared;
+mod answer_words;
 #[cfg(test)]
-mod completing;
+mod comparison;
 #[cfg(test)]
 mod days;
 #[cfg(test)]
@@ -13,14 +14,14 @@ mod lists;
 #[cfg(test)]
 mod live;
 #[cfg(test)]
+mod moment_completions;
+#[cfg(test)]
 mod plans;
 #[cfg(test)]
 mod refusals;
 #[cfg(test)]
-mod slow;
-#[cfg(test)]
-mod stepping;
+mod slow_executor;
 #[cfg(test)]
 mod streams;
 #[cfg(test)]
-mod told;
+mod time_steps;

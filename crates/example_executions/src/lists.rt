@@ -1,10 +1,11 @@
-//! By what a network is executed, as lists.
+//! The links, lower bounds and waits by which a network is executed, as lists.
 
 ghost use Rattle.std.specs.Prelude.{◌≡◌, IfOk, map, length, []};
 ghost use Rattle.std.specs.List.{list_all, range_with_len};
 ghost use Rattle.dispatch_net.specs.Dispatchable.{conditions_at};
 ghost use Rattle.net_model.specs.Moments.{moment_of};
-ghost use Rattle.execution_model.specs.Execution.{has_gone_by, link_to, meets_bound, meets_wait, meets, is_due, points_of};
+ghost use Rattle.execution_model.specs.Execution.{has_gone_by, link_to, meets_bound, meets_wait};
+ghost use Rattle.execution_model.specs.Execution.{meets, is_due, points_of};
 
 use dispatch_net::Dispatch;
 use net_model::{Link, LinkId, Network, PointId, Weight};
@@ -14,13 +15,13 @@ use std::test::Fail;
 
 /// The links, the conditions and the points. Contracts see it as the links and the conditions.
 #[derive(Drop)]
-pub(crate) struct Lists {
+pub(crate) struct TestLists {
     dispatch: Dispatch,
     links: Vec<Link>,
     points: Vec<PointId>,
 }
 
-impl Model for Lists {
+impl Model for TestLists {
     ghost use Rattle.std.specs.Prelude.{◌≡◌, length};
     ghost use Rattle.execution_model.specs.Execution.{Setting, points_of};
 
@@ -28,18 +29,22 @@ impl Model for Lists {
 
     ghost view = { λ kept. record { links = kept.links.items; dispatch = kept.dispatch.kept } };
 
-    ghost invariant = { λ kept. kept.points.items ≡ points_of (record { links = kept.links.items; dispatch = kept.dispatch.kept }) };
+    ghost invariant = { λ kept. kept.points.items ≡ points_of
+        (record { links = kept.links.items; dispatch = kept.dispatch.kept }) };
 }
 
-impl Lists {
-    /// Those of a network, and those that its dispatchable network keeps.
-    pub(crate) fn new(alloc: Global, net: &Network, dispatch: Dispatch) -> Result<Lists, Fail>
+impl TestLists {
+    /// The lists of a network, with the conditions that its dispatchable network keeps.
+    pub(crate) fn new(alloc: Global, net: &Network, dispatch: Dispatch) -> Result<TestLists, Fail>
         requires { length dispatch.kept ≡ length net.now.points }
-        ensures { IfOk result (λ lists. lists ≡ record { links = net.now.links; dispatch = dispatch.kept }) }
+        ensures { IfOk result (λ lists. lists ≡ record {
+          links = net.now.links;
+          dispatch = dispatch.kept;
+        }) }
     {
         let points = points(alloc, net.points().len() as u32)?;
         let links = Vec::from_slice(alloc, net.links())?;
-        Ok(Lists {
+        Ok(TestLists {
             dispatch,
             links,
             points,
@@ -123,7 +128,8 @@ impl Lists {
 }
 
 fn points(alloc: Global, count: u32) -> Result<Vec<PointId>, Fail>
-    ensures { IfOk result (λ points. points.items ≡ map (λ k. record { 0 = k }) (range_with_len 0 count)) }
+    ensures { IfOk result (λ points. points.items ≡ map (λ k. record { 0 = k })
+        (range_with_len 0 count)) }
 {
     let mut points = Vec::new(alloc);
     for point in 0..count {
@@ -153,7 +159,7 @@ pub(crate) fn moment_of(moments: &[Option<u64>], point: PointId) -> Option<u64>
     }
 }
 
-/// Whether at t n moments have gone by since a point came.
+/// Whether at t n moments have passed since a point came.
 fn has_gone_by(moments: &[Option<u64>], t: u64, point: PointId, n: Weight) -> bool
     ensures { result ≡ has_gone_by moments.now t point n }
 {

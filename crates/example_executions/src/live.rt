@@ -4,7 +4,7 @@ ghost use Rattle.std.specs.Prelude.{◌≡◌, ◌<◌, length, IfOk, true};
 ghost use Rattle.std.specs.List.{All};
 ghost use Rattle.live_executor.specs.Sound.{IsDispatchOf};
 
-use crate::slow::SlowExecutor;
+use crate::slow_executor::SlowExecutor;
 use derivation_dag::{Plain, Supports};
 use dispatch_net::Dispatch;
 use execution_model::{Act, Fed, Finished};
@@ -44,7 +44,7 @@ pub(crate) fn slow(
     SlowExecutor::start(alloc, net, dispatch)
 }
 
-/// What is left of a dispatchable network of a network where those lower bounds and waits are left out that others imply.
+/// A dispatchable network of a network, without the lower bounds and waits that others imply.
 fn slim(net: &Network, whole: Dispatch) -> Dispatch
     requires of { IsDispatchOf net.now whole }
     ensures dispatched { IsDispatchOf net.now result }
@@ -92,7 +92,7 @@ impl Live {
         self.executor.next_due()
     }
 
-    /// The moment of a point, and none for one that the network hasn't.
+    /// The moment of a point, or `None` for one that the network doesn't have.
     pub(crate) fn moment_of(&self, point: PointId) -> Option<u64> {
         if point.0 < self.points {
             self.executor.moment_of(point)

@@ -14,7 +14,7 @@ pub(crate) struct Refusals {
     moment_limit: u32,
 }
 
-/// One more.
+/// Counts one more refusal for a cause.
 fn add_one(count: &mut u32) {
     *count = count.saturating_add(1);
 }

@@ -1,8 +1,8 @@
-//! Streams, with what each feed is answered.
+//! Streams, with the answer to each feed.
 
+use crate::answer_words::{fed, finished, push_state};
 use crate::live::Live;
 use crate::plans::{network, push_points};
-use crate::told::{fed, finished, push_state};
 use net_model::Network;
 use std::alloc::Global;
 use std::process::Abort;
@@ -10,8 +10,9 @@ use std::str::SplitWhitespace;
 use std::test::Fail;
 use std::thread::Threads;
 
-/// Plans, each with its streams. A stream is a list of feeds, each a moment with the points that complete, or `done`; and what it is
-/// answered: with the last acts, the next due moment, and the moments so far of the points, in order of number.
+/// Plans, each with its streams. A stream is a list of feeds, each a moment with the points that
+/// complete, or `done`; and the answer: with the last acts, the next due moment, and the moments so
+/// far of the points, in order of number.
 const STREAMS: [(&str, &str); 7] = [
     (
         "point A|point B|bound b1 A B 5|bound b2 B A -2",
@@ -226,7 +227,7 @@ fn check_lines(
     Ok(())
 }
 
-/// What a feed or the end is answered.
+/// The answer to a feed or to the end.
 fn answer(alloc: Global, net: &Network, live: &mut Live, words: &str) -> Result<String, Fail> {
     if words == "done" {
         return finished(alloc, net, live.finish());

@@ -1,4 +1,5 @@
-//! Each call of a fleet, on three plans: one that can be kept, one that cannot, and one with a link.
+//! Each call of a fleet, on three plans: one that is controllable, one that is not, and one with a
+//! link.
 
 ghost use Rattle.std.specs.Prelude.{◌≡◌, ◌<◌, length, IfOk};
 ghost use Rattle.std.specs.List.{All};
@@ -48,7 +49,7 @@ fn letter(state: State) -> u8 {
     }
 }
 
-/// Feeds a plan at a moment where nothing completes.
+/// Feeds a plan a moment at which nothing completes.
 fn feed(fleet: &mut Fleet, plan: u32, moment: u64) -> FleetFed
     requires three { length fleet.old ≡ 3 }
     requires plan { plan < 3 }
@@ -65,8 +66,8 @@ fn finish(fleet: &mut Fleet, plan: u32) -> FleetFinished
     fleet.finish(plan)
 }
 
-/// The moment of the last act of a plan, and its next due moment; none where it was not started.
-fn told(fleet: &Fleet, plan: u32) -> (Option<u64>, Option<u64>)
+/// The moment of the last act of a plan, and its next due moment; none if it was not started.
+fn reported(fleet: &Fleet, plan: u32) -> (Option<u64>, Option<u64>)
     requires three { length fleet.now ≡ 3 }
     requires plan { plan < 3 }
 {
@@ -80,21 +81,23 @@ fn last_of(acts: &[Act]) -> Option<u64> {
     Some(acts.last()?.moment)
 }
 
-/// Feeds and ends the plans in turn: what each is answered, and how all stand after it.
+/// Feeds and ends the plans in turn: the answer to each, and how all stand after it.
 fn try_turns<R: Abort>(rt: &R, mut fleet: Fleet) -> Result<(), Fail>
     requires { length fleet ≡ 3 }
 {
-    assert!(rt; stands(&fleet) == *b"rnr" && told(&fleet, 1) == (None, None));
-    assert!(rt; told(&fleet, 0) == (None, Some(0)) && told(&fleet, 2) == (None, Some(0)));
+    assert!(rt; stands(&fleet) == *b"rnr" && reported(&fleet, 1) == (None, None));
+    assert!(rt; reported(&fleet, 0) == (None, Some(0)) && reported(&fleet, 2) == (None, Some(0)));
     assert!(rt; fleet.network(0).points().len() == 2 && fleet.network(1).bounds().len() == 2);
     assert!(rt; feed(&mut fleet, 0, 0) == FleetFed::Fed(Fed::Acts));
-    assert!(rt; told(&fleet, 0) == (Some(0), Some(2)) && told(&fleet, 2) == (None, Some(0)));
+    assert!(rt;
+        reported(&fleet, 0) == (Some(0), Some(2)) && reported(&fleet, 2) == (None, Some(0))
+    );
     assert!(rt; feed(&mut fleet, 1, 0) == FleetFed::Idle && stands(&fleet) == *b"rnr");
     assert!(rt; feed(&mut fleet, 2, 4) == FleetFed::Fed(Fed::Acts));
     assert!(rt; feed(&mut fleet, 2, 4) == FleetFed::Fed(Fed::Refused(Why::NotLater(4))));
     assert!(rt; stands(&fleet) == *b"rne" && feed(&mut fleet, 2, 5) == FleetFed::Idle);
     assert!(rt; finish(&mut fleet, 0) == FleetFinished::Finished(Finished::Complete));
-    assert!(rt; stands(&fleet) == *b"cne" && told(&fleet, 0) == (Some(2), None));
+    assert!(rt; stands(&fleet) == *b"cne" && reported(&fleet, 0) == (Some(2), None));
     assert!(rt;
         finish(&mut fleet, 0) == FleetFinished::Idle && finish(&mut fleet, 2) == FleetFinished::Idle
     );

@@ -1,4 +1,4 @@
-//! That the plans of a fleet are decided side by side.
+//! A test that the plans of a fleet are decided side by side.
 
 use crate::plans::plans;
 use parallel_rounds::Gate;
@@ -12,17 +12,17 @@ use std::thread::Threads;
 /// How often the gate looks, at most, whether the second plan has begun.
 const TURNS: u64 = 500_000_000;
 
-/// Holds the first plan until the second has begun.
+/// Blocks the first plan until the second has begun.
 #[derive(Drop)]
 struct Held {
-    begun: AtomicU32,
+    started_count: AtomicU32,
     failed: AtomicBool,
 }
 
 impl Held {
     fn new() -> Held {
         Held {
-            begun: AtomicU32::new(0),
+            started_count: AtomicU32::new(0),
             failed: AtomicBool::new(false),
         }
     }
@@ -30,29 +30,30 @@ impl Held {
     /// Looks until two plans have begun, for so many turns at most, and says whether they have.
     fn both_begin(&self) -> bool {
         for _ in 0..TURNS {
-            if self.begun.load(Ordering::SeqCst) >= 2 {
+            if self.started_count.load(Ordering::SeqCst) >= 2 {
                 return true;
             }
         }
         false
     }
 
-    /// Whether the first plan was not let go before, and both have begun.
+    /// Whether the first plan was not released before, and both have begun.
     fn was_met(&self) -> bool {
-        !self.failed.load(Ordering::SeqCst) && self.begun.load(Ordering::SeqCst) == 2
+        !self.failed.load(Ordering::SeqCst) && self.started_count.load(Ordering::SeqCst) == 2
     }
 }
 
 impl Gate for Held {
     fn before(&self, place: u32) {
-        self.begun.fetch_add(1, Ordering::SeqCst);
+        self.started_count.fetch_add(1, Ordering::SeqCst);
         if place == 0 && !self.both_begin() {
             self.failed.store(true, Ordering::SeqCst);
         }
     }
 }
 
-/// A fleet of two plans of one point each, of which the first is held until the second has begun.
+/// A fleet of two plans of one point each, of which the first is blocked until the second has
+/// begun.
 fn try_two<R: Threads + Sync + Abort>(rt: &R, alloc: Global) -> Result<(), Fail> {
     let gate = Held::new();
     let two = [("x", "point A"), ("y", "point B")];

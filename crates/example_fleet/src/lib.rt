@@ -1,4 +1,5 @@
-//! Fleets of plans: their calls on examples, and that their plans are decided side by side, tried as tests.
+//! Fleets of plans: their calls on examples, and that their plans are decided side by side, tried
+//! as tests.
 #![tactic(auto)]
 
 #[cfg(test)]

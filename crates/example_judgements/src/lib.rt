@@ -1,4 +1,5 @@
-//! The judgement of certificates, and strategies, what they play, and schedules that satisfy a network: examples, tried as tests.
+//! The judgement of certificates, and strategies, what they play, and schedules that satisfy a
+//! network: examples, tried as tests.
 #![tactic(auto)]
 
 #[cfg(test)]

@@ -3,8 +3,8 @@
 use crate::rows::{Original, try_over};
 use std::test::Fail;
 
-/// Rows: the number of a line of a refutation and what stands in its place, or 0 and other lines in place of all, and the
-/// judgement; `|` stands for a line end.
+/// Rows: the number of a line of a refutation and what stands in its place, or 0 and other lines in
+/// place of all, and the judgement; `|` stands for a line end.
 const OVER_TWO_BOUNDS: &str =
     "0 bound b1 A B 3|bound b2 B A -5|no 1 2 A A -2|walk 3 => accepted not controllable";
 
@@ -56,7 +56,7 @@ const OVER_ONE_LINK: &str = "8 walk 7 => accepted not controllable
 8 walk 1|walk 2 => refused 9 walk-not-negative 0
 8 walk 7|walk 7|walk 4|walk 5 => accepted not controllable";
 
-/// A refutation over two links, each of whose ends is bounded by the other's beginning.
+/// A refutation over two links, each of whose ends is bounded by the other's activation.
 const TWO_LINKS: &str =
     "bound p A1 C2 2|bound q A2 C1 2|link C1 C1 A1 -10|link C2 C2 A2 -10|up 2 3 A2 A1 C1 -8|drop 5 A2 A1 -1|up 1 4 A1 A2 C2 -8|drop 7 A1 A2 -1|walk 8|walk 6";
 

@@ -8,7 +8,8 @@ use std::process::Abort;
 use std::test::Fail;
 use std::thread::Threads;
 
-/// A certificate before it is changed: its second line, and those after it but for `end`; `|` stands for a line end.
+/// A certificate before it is changed: its second line, and those after it but for `end`; `|`
+/// stands for a line end.
 #[derive(Clone, Copy)]
 pub(crate) struct Original<'a> {
     pub(crate) kind: &'a str,
@@ -69,7 +70,8 @@ fn built(alloc: Global, parts: &[Part]) -> Result<Network, Fail> {
     Ok(Network::build(alloc, parts)?)
 }
 
-/// The text of a certificate in which other lines stand in the place of one, by its number from 1, or of all, by 0.
+/// The text of a certificate in which other lines stand in the place of one, by its number from 1,
+/// or of all, by 0.
 fn certificate(
     alloc: Global,
     original: &Original,

@@ -1,5 +1,5 @@
-//! The first refused place of a list: several threads find the one that a scan item by item finds. Entries that are negative count as
-//! refused here.
+//! The first refused place of a list: several threads find the one that a scan item by item finds.
+//! Entries that are negative count as refused here.
 
 ghost use Rattle.std.specs.Prelude.{◌≡◌, int_lt, pos, true};
 ghost use Rattle.std.specs.List.{position};
@@ -63,7 +63,7 @@ fn try_text<R: Abort + Threads + Sync>(rt: &R, alloc: Global, text: &[u8], wante
     }
 }
 
-/// A table proof of which the entries at two places are spoiled, or none where a place is past them.
+/// A table proof of which the entries at two places are spoiled, or none if a place is past them.
 fn try_spoiled<R: Abort + Threads + Sync>(
     rt: &R,
     alloc: Global,

@@ -1,4 +1,5 @@
-//! Table proofs over many points, of which some have few entries: what holds a row of few is judged as what holds a word for each point.
+//! Table proofs over many points, of which some have few entries: a row stored by its few entries
+//! is judged like one stored with a word for each point.
 
 use crate::rows::judged;
 use crate::wide::{POINTS, network, push_name};
@@ -8,8 +9,8 @@ use std::process::Abort;
 use std::test::Fail;
 use std::thread::Threads;
 
-/// Rows: entries with `|` between them, and the judgement; `each p1 0` stands for an entry of this weight from each other point. The order
-/// takes lines 1 to 46, from the last point to the first.
+/// Rows: entries with `|` between them, and the judgement; `each p1 0` stands for an entry of this
+/// weight from each other point. The order takes lines 1 to 46, from the last point to the first.
 const ROWS: &str = "edge p0 p1 0|edge p1 p45 -1|edge p0 p45 -1 => accepted controllable
 edge p0 p1 0|edge p1 p45 -1 => refused 48 not-closed
 edge p0 p1 0|edge p1 p45 -1|edge p0 p45 0 => refused 48 not-closed

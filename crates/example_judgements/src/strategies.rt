@@ -1,3 +1,5 @@
+//! Strategies, what they play in a situation, and schedules that satisfy a network or do not.
+
 ghost use Rattle.std.specs.Prelude.{IfOk};
 ghost use Rattle.net_model.specs.Network.{HasPlanNumbers};
 
@@ -55,7 +57,7 @@ fn only(alloc: Global, seen: &[PointId], acts: &[PointId], next: Tree) -> Result
     Ok(Tree::Node(Items::new(cases)))
 }
 
-/// A at once, and D as soon as C is seen; where C is not seen in moment 1 it goes on as `late` says.
+/// A at once, and D as soon as C is seen; if C is not seen in moment 1 it continues as `late` says.
 fn as_seen(alloc: Global, late: Tree) -> Result<Tree, AllocError> {
     let mut cases = Vec::new(alloc);
     cases.push(case(alloc, &[C], &[D], Tree::Leaf)?)?;
@@ -114,7 +116,7 @@ fn played(
     play(alloc, &tree, net, &situation)
 }
 
-/// Whether a schedule is the one wanted, and satisfies the network where one is wanted.
+/// Whether a schedule is the one wanted, and satisfies the network if one is wanted.
 fn is_wanted(schedule: &Option<Schedule>, wanted: Option<[u64; 3]>, net: &Network) -> bool {
     match (schedule, wanted) {
         (None, None) => true,
@@ -151,7 +153,8 @@ fn check_schedules(rt: &impl Abort, alloc: Global, net: &Network) -> Result<(), 
     Ok(())
 }
 
-/// Strategies, the duration of the link and what is played, of the same network with a delay of 1: C is seen a moment after it came.
+/// Strategies, the duration of the link and what is played, of the same network with a delay of 1:
+/// C is seen a moment after it came.
 const LATE_PLAYS: [(Example, u64, Option<[u64; 3]>); 4] = [
     (Example::Whole, 1, Some([0, 1, 2])),
     (Example::Whole, 2, None),

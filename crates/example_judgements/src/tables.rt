@@ -6,8 +6,8 @@ use std::test::Fail;
 /// A table proof over two bounds.
 const TWO_BOUNDS: &str = "order A|order B|edge A A 3|edge B A -2|edge A B 5";
 
-/// Rows: the number of a line of the table proof and what stands in its place, or 0 and other lines in place of all, and the
-/// judgement; `|` stands for a line end. Blank lines have no number.
+/// Rows: the number of a line of the table proof and what stands in its place, or 0 and other lines
+/// in place of all, and the judgement; `|` stands for a line end. Blank lines have no number.
 const OVER_TWO_BOUNDS: &str =
     "0 order A|order B|edge A A 3|edge B A -2|edge A B 5 => accepted controllable
 0 order A|order B|edge B A -2|edge A B 5 => refused 3 not-closed

@@ -1,4 +1,5 @@
-//! A table proof of more than 2,048 entries, which several threads scan: the first that is refused is that of one thread.
+//! A table proof of more than 2,048 entries, which several threads scan: the first that is refused
+//! is that of one thread.
 
 use crate::rows::judged;
 use net_model::{BuildFault, Name, Network, Part};

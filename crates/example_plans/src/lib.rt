@@ -7,15 +7,15 @@ use plan_format::PlanReader;
 use std::alloc::Global;
 use std::test::Fail;
 
-/// The network of the lines of a plan, without its first and its last, with `|` between them. It fails where a line is no line of a plan,
-/// where a part is refused, and for want of memory.
+/// The network of the lines of a plan, without its first and its last, with `|` between them. It
+/// fails if a line is no line of a plan, if a part is refused, and for want of memory.
 pub fn network(alloc: Global, lines: &str) -> Result<Network, Fail> {
     let mut reader = PlanReader::new(alloc);
     read_lines(&mut reader, lines)?;
     Ok(reader.build(alloc)?)
 }
 
-/// The same with a delay. It fails besides where that is below 0 or above `MOST_DELAY`.
+/// The same with a delay. It fails besides if that is below 0 or above `MOST_DELAY`.
 pub fn network_with_delay(alloc: Global, lines: &str, delay: Weight) -> Result<Network, Fail> {
     let mut reader = PlanReader::new(alloc);
     read_lines(&mut reader, lines)?;

@@ -5,14 +5,14 @@ use Rattle.std.specs.Option.{option_map_or}
 use Rattle.std.specs.List.{position_or_len}
 use Rattle.net_model.specs.declared.ids.PointId.{PointId}
 use Rattle.closure_model.specs.Tables.{Graph}
-use Rattle.closure_model.specs.Orders.{is_among, next_on, cycle_after}
+use Rattle.closure_model.specs.Orders.{contains_point, next_on, cycle_after}
 
-pub step_met : (graph : Graph) (placed before : List PointId) (p : PointId) (k n : ℕ) → k ≡ suc n → is_among before p ≡ true → cycle_after graph placed k before p ≡ drop (position_or_len (λ q. q.0 == p.0) before) before
+pub step_met : (graph : Graph) (placed before : List PointId) (p : PointId) (k n : ℕ) → k ≡ suc n → contains_point before p ≡ true → cycle_after graph placed k before p ≡ drop (position_or_len (λ q. q.0 == p.0) before) before
 step_met graph placed before p k n steps met =
     ap (λ m. cycle_after graph placed m before p) steps
     ∙ ap (λ b. cond b (drop (position_or_len (λ q. q.0 == p.0) before) before) (option_map_or (cycle_after graph placed n (before ++ p ∷ [])) (next_on graph placed p) [])) met
 
-pub step_on : (graph : Graph) (placed before after : List PointId) (p : PointId) (o : Option PointId) (k n : ℕ) → k ≡ suc n → is_among before p ≡ false → next_on graph placed p ≡ o → after ≡ before ++ p ∷ []
+pub step_on : (graph : Graph) (placed before after : List PointId) (p : PointId) (o : Option PointId) (k n : ℕ) → k ≡ suc n → contains_point before p ≡ false → next_on graph placed p ≡ o → after ≡ before ++ p ∷ []
     → cycle_after graph placed k before p ≡ option_map_or (cycle_after graph placed n after) o []
 step_on graph placed before after p o k n steps new next more =
     ap (λ m. cycle_after graph placed m before p) steps

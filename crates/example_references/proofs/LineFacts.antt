@@ -12,7 +12,7 @@ use Rattle.closure_model.specs.Keys.{Key}
 use Rattle.closure_model.specs.declared.derivation.Node.{Node}
 use Rattle.closure_model.specs.declared.derivation.NodeId.{NodeId}
 use Rattle.closure_model.proofs.Lists.{Contains-head, Contains-tail, Contains-cases, Contains-none, each-contained}
-use Rattle.example_references.specs.LinesFrom.{is_in, is_premise, is_wanted, AreLinesFrom}
+use Rattle.example_references.specs.LinesFrom.{contains_node_id, is_premise, is_wanted, AreLinesFrom}
 
 -- ---- numbers among numbers
 module _ {X : Type 0} (p : X → Bool) where
@@ -42,10 +42,10 @@ same_from one other is = same_number one other (grind (arith, nat_tests))
 same_test : (one other : NodeId) → one ≡ other → (one.0 == other.0) ≡ true
 same_test one other same = let numbers : one.0 ≡ other.0 = ap (λ (id : NodeId). id.0) same in grind (arith, nat_tests)
 
-in_gives : (ids : List NodeId) (id : NodeId) → is_in ids id ≡ true → Contains ids id
+in_gives : (ids : List NodeId) (id : NodeId) → contains_node_id ids id ≡ true → Contains ids id
 in_gives ids id is = let (other, inside, passes) = any_gives (λ (other : NodeId). other.0 == id.0) ids is in subst (Contains ids) (same_from other id passes) inside
 
-in_from : (ids : List NodeId) (id : NodeId) → Contains ids id → is_in ids id ≡ true
+in_from : (ids : List NodeId) (id : NodeId) → Contains ids id → contains_node_id ids id ≡ true
 in_from ids id inside = any_from (λ (other : NodeId). other.0 == id.0) ids id inside (same_test id id refl)
 
 -- ---- premises
@@ -53,12 +53,13 @@ module _ (nodes : List Node) where
   premise_gives : (id premise : NodeId) → is_premise nodes id premise ≡ true → (node : Node) × (node_at nodes id ≡ Some node) × Contains (premises_of node.rule) premise
   premise_gives id premise is = by (node_at nodes id) refl is
     where
-      by : (o : Option Node) → node_at nodes id ≡ o → option_map_or (λ (node : Node). is_in (premises_of node.rule) premise) o false ≡ true → (node : Node) × (node_at nodes id ≡ Some node) × Contains (premises_of node.rule) premise
+      by : (o : Option Node) → node_at nodes id ≡ o → option_map_or (λ (node : Node). contains_node_id (premises_of node.rule) premise) o false ≡ true
+          → (node : Node) × (node_at nodes id ≡ Some node) × Contains (premises_of node.rule) premise
       by None at is = absurd cc
       by (Some node) at is = (node, at, in_gives (premises_of node.rule) premise is)
 
   premise_from : (id premise : NodeId) (node : Node) → node_at nodes id ≡ Some node → Contains (premises_of node.rule) premise → is_premise nodes id premise ≡ true
-  premise_from id premise node at among = ap (λ (o : Option Node). option_map_or (λ (m : Node). is_in (premises_of m.rule) premise) o false) at ∙ in_from (premises_of node.rule) premise among
+  premise_from id premise node at among = ap (λ (o : Option Node). option_map_or (λ (m : Node). contains_node_id (premises_of m.rule) premise) o false) at ∙ in_from (premises_of node.rule) premise among
 
   -- a premise of what stands under a node stands under it
   under_more : (id premise : NodeId) (node : Node) → node_at nodes id ≡ Some node → Contains (premises_of node.rule) premise → (top : NodeId) → IsUnder nodes id top → IsUnder nodes premise top
@@ -75,9 +76,9 @@ module _ (nodes : List Node) (steps lines : List NodeId) (id : NodeId) (was : Ar
 
   -- what is wanted is a step or stands under one
   wanted_under : is_wanted nodes steps lines id ≡ true → IsReached id
-  wanted_under wanted = by (is_in steps id) refl wanted
+  wanted_under wanted = by (contains_node_id steps id) refl wanted
     where
-      by : (b : Bool) → is_in steps id ≡ b → (b || list_any (λ (line : NodeId). is_premise nodes line id) lines) ≡ true → IsReached id
+      by : (b : Bool) → contains_node_id steps id ≡ b → (b || list_any (λ (line : NodeId). is_premise nodes line id) lines) ≡ true → IsReached id
       by true step wanted = (id, in_gives steps id step, itself id refl)
       by false step wanted =
           let (line, inside, premise) = any_gives (λ (line : NodeId). is_premise nodes line id) lines wanted in
@@ -128,10 +129,10 @@ module _ (nodes : List Node) (steps lines : List NodeId) (id : NodeId) (was : Ar
       by_line false c is holds = absurd cc
 
       no_step : Contains steps id → ⊥
-      no_step step = by_step (is_in steps id) (list_any (λ (line : NodeId). is_premise nodes line id) lines) unwanted (in_from steps id step)
+      no_step step = by_step (contains_node_id steps id) (list_any (λ (line : NodeId). is_premise nodes line id) lines) unwanted (in_from steps id step)
 
       no_premise : (x : NodeId) → Contains lines x → is_premise nodes x id ≡ true → ⊥
-      no_premise x inside premise = by_line (is_in steps id) (list_any (λ (line : NodeId). is_premise nodes line id) lines) unwanted (any_from (λ (line : NodeId). is_premise nodes line id) lines x inside premise)
+      no_premise x inside premise = by_line (contains_node_id steps id) (list_any (λ (line : NodeId). is_premise nodes line id) lines) unwanted (any_from (λ (line : NodeId). is_premise nodes line id) lines x inside premise)
 
 -- ---- from the last to the first
 module _ (nodes : List Node) (steps : List NodeId) where

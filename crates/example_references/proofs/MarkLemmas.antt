@@ -1,4 +1,4 @@
--- Marks and counted places say what the places of following say.
+-- Marks and counted places give the places that following gives.
 use Rattle.std.proofs.Common.{◌≡◌, ℕ, suc, ◌+◌, ◌≤◌, ◌<◌, Bool, true, false, cond, not, is_none, is_some, ◌⊎◌, inl, inr, List, [], ◌∷◌, ◌++◌, length, get_or, take, map, Option, Some, None, refl, ap, sym, ◌∙◌, subst, arith}
 use Rattle.std.specs.Prelude.{slice_get, if◌then◌else◌}
 use Rattle.std.specs.List.{count_by}
@@ -13,10 +13,10 @@ use Rattle.closure_model.specs.declared.derivation.Node.{Node}
 use Rattle.closure_model.specs.declared.derivation.NodeId.{NodeId}
 use Rattle.closure_model.specs.declared.derivation.Rule.{Rule}
 use Rattle.closure_model.specs.declared.derivation.Rule.TheVariants as by_rule
-use Rattle.derivation_edits.specs.Following.{Renumbering, Following, none_followed, placed, follow_node, place_at, moved_rule, moved_node, followed}
-use Rattle.derivation_edits.proofs.Keeping.{with_rule}
-use Rattle.derivation_edits.proofs.MovedPremises.{place_before, place_last}
-use Rattle.derivation_edits.proofs.Prefixes.{one_more}
+use Rattle.edit_laws.specs.KeptLists.{Renumbering, Following, none_followed, placed, follow_node, place_at, moved_rule, moved_node, followed}
+use Rattle.edit_laws.proofs.KeptNodes.{with_rule}
+use Rattle.edit_laws.proofs.MovedPremises.{place_before, place_last}
+use Rattle.edit_laws.proofs.Prefixes.{one_more}
 use Rattle.example_references.specs.Marks.{mark_at, kept_before, kept_place, rule_after, node_after, with_some}
 
 abbrev marks_of : List (Option NodeId) → List Bool
@@ -105,7 +105,8 @@ one_counted so_far None was = record {
 one_counted so_far (Some node) was = record {
   number =
       ap count (map-append (λ (o : Option NodeId). is_none o) so_far.places (Some (record { 0 = length so_far.kept }) ∷ []))
-      ∙ (sum_by-append (λ (mark : Bool). cond (not mark) 1 0) (marks_of so_far.places) (false ∷ []) ∙ (let n = was.number in let l : length (so_far.kept ++ node ∷ []) ≡ length so_far.kept + 1 = length-append so_far.kept (node ∷ []) in omega arith));
+      ∙ (sum_by-append (λ (mark : Bool). cond (not mark) 1 0) (marks_of so_far.places) (false ∷ []) ∙ (let n = was.number in let l : length (so_far.kept ++ node ∷ []) ≡ length so_far.kept + 1 = length-append so_far.kept (node ∷ []) in
+      omega arith));
   each = each_more so_far.places (Some (record { 0 = length so_far.kept })) was.each (inr (ap (λ (n : ℕ). Some (let id : NodeId = record { 0 = n } in id)) (sym was.number)));
 }
 
@@ -123,7 +124,7 @@ pub same_node : (moves : Renumbering) (so_far : Following) (node : Node) → Are
 same_node moves so_far node was = ap (option_map (with_rule moves node)) (same_rule moves so_far was node.rule)
 
 -- ---- the loop
--- what the loop holds after the first nodes
+-- what the loop has after the first nodes
 pub record Holds (moves : Renumbering) (nodes : List Node) (n : ℕ) (marks : List Bool) (kept : List Node) : Type 0 where
   pub marks_are : marks ≡ marks_of (followed moves (take n nodes)).places
   pub kept_are : kept ≡ (followed moves (take n nodes)).kept

@@ -8,11 +8,11 @@ use Rattle.net_model.specs.declared.part.Bound.{Bound}
 use Rattle.net_model.specs.declared.part.Link.{Link}
 use Rattle.closure_model.specs.Derivations.{base_nodes, bound_node, link_node}
 use Rattle.closure_model.specs.declared.derivation.Node.{Node}
-use Rattle.closure_model.proofs.Basing.{numbered_at}
+use Rattle.closure_model.proofs.ReachedTables.{numbered_at}
 use Rattle.closure_model.proofs.Lists.{Contains-head, Contains-tail}
-use Rattle.derivation_edits.specs.Taken.{new_bounds, new_links, new_base_nodes, is_new_bound, is_new_link}
+use Rattle.edit_laws.specs.EditNumbers.{new_bounds, new_links, new_base_nodes, is_new_bound, is_new_link}
 use Rattle.example_references.specs.Marks.{is_new_base}
-use Rattle.example_references.specs.declared.edited.Edited.{Edited}
+use Rattle.example_references.specs.declared.edited_network.Edited.{Edited}
 
 -- the images that pass one test are those of the items that pass another
 filtered : {X Y : Type 0} (made : X → Y) (p : Y → Bool) (q : X → Bool) (xs : List X) → ((x : X) → Contains xs x → p (made x) ≡ q x) → filter p (map made xs) ≡ map made (filter q xs)

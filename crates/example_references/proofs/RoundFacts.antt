@@ -5,7 +5,7 @@ use Rattle.std.proofs.lemmas.Bool.Decides.{nat_tests}
 use Rattle.net_model.specs.Network.{Plan}
 use Rattle.net_model.specs.declared.ids.PointId.{PointId}
 use Rattle.closure_model.specs.Derivations.{Support, with_node}
-use Rattle.closure_model.specs.Orders.{first_left, placed_points, cycle_from}
+use Rattle.closure_model.specs.Orders.{lowest_unplaced, placed_points, cycle_from}
 use Rattle.closure_model.specs.ReferenceRound.{rule_for, with_one, round_made, after_round}
 use Rattle.closure_model.specs.ReferenceRounds.{Ending, closed, looped, RoundsEnd, in_cycle, in_order, after_one}
 use Rattle.closure_model.specs.Tables.{Graph}
@@ -13,7 +13,7 @@ use Rattle.closure_model.specs.declared.derivation.Node.{Node}
 use Rattle.closure_model.specs.declared.derivation.Rule.{Rule}
 use Rattle.closure_model.specs.declared.rows.Made.{Made}
 use Rattle.example_references.specs.Ends.{sought_in, sought_from}
-use Rattle.example_references.specs.Listed.{support_in}
+use Rattle.example_references.specs.NodeTables.{support_in}
 use Rattle.example_references.proofs.NodeFacts.{support_pushed}
 use Rattle.example_references.specs.declared.ending.Ending.TheVariants.{Closed, Looped}
 
@@ -28,30 +28,30 @@ pub none_pushed : (net : Plan) (before nodes : List Node) (made : Made) → None
 none_pushed net before nodes made none = ap (λ (o : Option Rule). option_map_or (λ r. with_node (support_in net nodes) (record { rule = r; edge = made.edge })) o (support_in net nodes)) none
 
 -- ---- what was sought
-sought_cycle : (table : Graph) (cycle : List PointId) → Looped cycle ≡ sought_in table → (first : PointId) × (first_left table ≡ Some first) × (cycle ≡ cycle_from table first)
-sought_cycle table cycle is = by (first_left table) refl is
+sought_cycle : (table : Graph) (cycle : List PointId) → Looped cycle ≡ sought_in table → (first : PointId) × (lowest_unplaced table ≡ Some first) × (cycle ≡ cycle_from table first)
+sought_cycle table cycle is = by (lowest_unplaced table) refl is
   where
-    by : (o : Option PointId) → first_left table ≡ o → Looped cycle ≡ sought_from table o → (first : PointId) × (first_left table ≡ Some first) × (cycle ≡ cycle_from table first)
+    by : (o : Option PointId) → lowest_unplaced table ≡ o → Looped cycle ≡ sought_from table o → (first : PointId) × (lowest_unplaced table ≡ Some first) × (cycle ≡ cycle_from table first)
     by None none is = absurd cc
     by (Some first) some is = (first, some, cc)
 
-sought_order : (table : Graph) (order : List PointId) → Closed order ≡ sought_in table → (first_left table ≡ None) × (order ≡ placed_points table)
-sought_order table order is = by (first_left table) refl is
+sought_order : (table : Graph) (order : List PointId) → Closed order ≡ sought_in table → (lowest_unplaced table ≡ None) × (order ≡ placed_points table)
+sought_order table order is = by (lowest_unplaced table) refl is
   where
-    by : (o : Option PointId) → first_left table ≡ o → Closed order ≡ sought_from table o → (first_left table ≡ None) × (order ≡ placed_points table)
+    by : (o : Option PointId) → lowest_unplaced table ≡ o → Closed order ≡ sought_from table o → (lowest_unplaced table ≡ None) × (order ≡ placed_points table)
     by None none is = (none, cc)
     by (Some first) some is = absurd cc
 
--- ---- whether anything fell
-nothing_fell : (made : List Made) → length made ≡ 0 → made ≡ []
-nothing_fell [] none = refl
-nothing_fell (one ∷ made) none = absurd (omega arith)
+-- ---- whether anything improved
+nothing_improved : (made : List Made) → length made ≡ 0 → made ≡ []
+nothing_improved [] none = refl
+nothing_improved (one ∷ made) none = absurd (omega arith)
 
-fell_is : (made : List Made) → true ≡ not (length made == 0) → made ≢ []
-fell_is made fell none = let zero_long : length made ≡ 0 = ap length none in grind (arith, nat_tests)
+improved_is : (made : List Made) → true ≡ not (length made == 0) → made ≢ []
+improved_is made improved none = let zero_long : length made ≡ 0 = ap length none in grind (arith, nat_tests)
 
 none_is : (made : List Made) → false ≡ not (length made == 0) → made ≡ []
-none_is made fell = nothing_fell made (grind (arith, nat_tests))
+none_is made improved = nothing_improved made (grind (arith, nat_tests))
 
 -- ---- the rounds so far
 abbrev pub GoesOn : Plan → Support → Support → ℕ → Type 0
@@ -62,24 +62,25 @@ goes_first net start more after ending ends = let same : more ≡ 0 + more = ome
 
 pub goes_more : (net : Plan) (start now next : Support) (count : ℕ) (order : List PointId) → GoesOn net start now count → Closed order ≡ sought_in now.table → next ≡ after_round net now → true ≡ not (length (round_made net now.table) == 0)
     → GoesOn net start next (count + 1)
-goes_more net start now next count order way sought is fell more after ending ends =
+goes_more net start now next count order progress sought is improved more after ending ends =
     let (left, placed) = sought_order now.table order sought in
     let same : count + suc more ≡ count + 1 + more = omega arith in
     subst (λ (n : ℕ). RoundsEnd net start n after ending) same
-    (way (suc more) after ending (after_one now after more ending left (fell_is (round_made net now.table) fell) (subst (λ (s : Support). RoundsEnd net s more after ending) is ends)))
+    (progress (suc more) after ending (after_one now after more ending left (improved_is (round_made net now.table) improved) (subst (λ (s : Support). RoundsEnd net s more after ending) is ends)))
 
-pub goes_closed : (net : Plan) (start now next : Support) (count : ℕ) (order : List PointId) → GoesOn net start now count → Closed order ≡ sought_in now.table → next ≡ after_round net now → false ≡ not (length (round_made net now.table) == 0)
+pub goes_closed : (net : Plan) (start now next : Support) (count : ℕ) (order : List PointId) → GoesOn net start now count → Closed order ≡ sought_in now.table → next ≡ after_round net now
+    → false ≡ not (length (round_made net now.table) == 0)
     → RoundsEnd net start (count + 1) next (closed order)
-goes_closed net start now next count order way sought is fell =
+goes_closed net start now next count order progress sought is improved =
     let (left, placed) = sought_order now.table order sought in
-    let none = none_is (round_made net now.table) fell in
+    let none = none_is (round_made net now.table) improved in
     let same : after_round net now ≡ now = ap (fold (with_one now.nodes) now) none in
     subst (λ (s : Support). RoundsEnd net start (count + 1) s (closed order)) (sym (is ∙ same))
-    (way 1 now (closed order) (subst (λ (points : List PointId). RoundsEnd net now 1 now (closed points)) (sym placed) (in_order now left none)))
+    (progress 1 now (closed order) (subst (λ (points : List PointId). RoundsEnd net now 1 now (closed points)) (sym placed) (in_order now left none)))
 
 pub goes_looped : (net : Plan) (start now : Support) (count : ℕ) (cycle : List PointId) → GoesOn net start now count → Looped cycle ≡ sought_in now.table → RoundsEnd net start count now (looped cycle)
-goes_looped net start now count cycle way sought =
+goes_looped net start now count cycle progress sought =
     let (first, left, met) = sought_cycle now.table cycle sought in
     let same : count + 0 ≡ count = omega arith in
     subst (λ (n : ℕ). RoundsEnd net start n now (looped cycle)) same
-    (way 0 now (looped cycle) (subst (λ (points : List PointId). RoundsEnd net now 0 now (looped points)) (sym met) (in_cycle now first left)))
+    (progress 0 now (looped cycle) (subst (λ (points : List PointId). RoundsEnd net now 0 now (looped points)) (sym met) (in_cycle now first left)))

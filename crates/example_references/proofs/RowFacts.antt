@@ -17,15 +17,15 @@ use Rattle.net_model.specs.declared.part.Edge.{Edge}
 use Rattle.net_model.specs.declared.part.Link.{Link}
 use Rattle.net_model.proofs.Positions.{None_from_fails}
 use Rattle.closure_model.specs.Keys.{Shape, labels_at, keys_between}
-use Rattle.closure_model.specs.ReferenceRow.{Making, next_slot, first_slot, consequences, offered, edge_in, fell}
+use Rattle.closure_model.specs.ReferenceRow.{Making, next_slot, first_slot, consequences, relaxed, edge_in, improved}
 use Rattle.closure_model.specs.Tables.{Graph}
 use Rattle.closure_model.specs.declared.derivation.Node.{Node}
 use Rattle.closure_model.specs.declared.rows.Made.{Made}
 use Rattle.closure_model.specs.declared.rows.Slot.{Slot}
 use Rattle.closure_model.proofs.RowRun.{IsUnderWay, next_there, fewer_after, under_way_next}
 use Rattle.closure_model.proofs.RowSteps.{unsettled, after_slot}
-use Rattle.example_references.specs.Listed.{table_in}
-use Rattle.example_references.proofs.NodeFacts.{shape_told}
+use Rattle.example_references.specs.NodeTables.{table_in}
+use Rattle.example_references.proofs.NodeFacts.{shape_agrees}
 
 -- ---- an item of a list changed, one after another
 module _ {X : Type 0} (f : X → X) where
@@ -73,7 +73,8 @@ pub flat_more : {Y : Type 0} (f : PointId → List Y) (from : ℕ) (before after
     → after ≡ flat_map f (map (λ k. record { 0 = k }) (range_with_len 0 (from + 1)))
 flat_more {Y} f from before after was is =
     let points : List PointId = map (λ k. record { 0 = k }) (range_with_len 0 from) in
-    let one : flat_map f (points ++ record { 0 = from } ∷ []) ≡ flat_map f points ++ f (record { 0 = from }) = flat_map-append f points (record { 0 = from } ∷ []) ∙ ap (λ (ys : List Y). flat_map f points ++ ys) (append-nil (f (record { 0 = from }))) in
+    let one : flat_map f (points ++ record { 0 = from } ∷ []) ≡ flat_map f points ++ f (record { 0 = from }) = flat_map-append f points (record { 0 = from } ∷ [])
+    ∙ ap (λ (ys : List Y). flat_map f points ++ ys) (append-nil (f (record { 0 = from }))) in
     is ∙ (ap (λ (ys : List Y). ys ++ f (record { 0 = from })) was ∙ (sym one ∙ ap (flat_map f) (sym (points_more from))))
 
 -- the slots of the sources before one
@@ -91,7 +92,7 @@ source_more table to from before after was is =
     is ∙ (ap (λ (ys : List Slot). ys ++ map (first_slot table) (keys_between table.shape to (record { 0 = from }))) was
     ∙ (sym (map-append (first_slot table) (flat_map (keys_between table.shape to) points) (keys_between table.shape to (record { 0 = from }))) ∙ ap (map (first_slot table)) keys))
 
--- ---- the links that begin in a point, by the network and by its shape
+-- ---- the links that a point activates, by the network and by its shape
 -- the places in pairs of them and links, and in pairs of them and points
 abbrev link_places : List (ℕ × Link) → List LinkId
 link_places pairs = map (λ (l : ℕ × Link). record { 0 = l.0 }) pairs
@@ -99,7 +100,7 @@ link_places pairs = map (λ (l : ℕ × Link). record { 0 = l.0 }) pairs
 abbrev point_places : List (ℕ × PointId) → List LinkId
 point_places pairs = map (λ (e : ℕ × PointId). record { 0 = e.0 }) pairs
 
--- those of links that begin in a point, and of that point
+-- those of links that a point activates, and of that point
 abbrev links_in : PointId → ℕ → List Link → List (ℕ × Link)
 links_in to n links = filter (λ (l : ℕ × Link). l.1.from.0 == to.0) (enumerate_from n links)
 
@@ -115,25 +116,25 @@ labels_same to n (link ∷ links) = by (link.from.0 == to.0) (labels_same to (n 
     by true rest = ap (λ (ls : List LinkId). record { 0 = n } ∷ ls) rest
     by false rest = rest
 
-pub labels_told : (net : Plan) (nodes : List Node) (to : PointId) → links_from net to ≡ labels_at (table_in net nodes).shape to
-labels_told net nodes to = labels_same to 0 net.links ∙ ap (λ (s : Shape). labels_at s to) (sym (shape_told net nodes))
+pub labels_agree : (net : Plan) (nodes : List Node) (to : PointId) → links_from net to ≡ labels_at (table_in net nodes).shape to
+labels_agree net nodes to = labels_same to 0 net.links ∙ ap (λ (s : Shape). labels_at s to) (sym (shape_agrees net nodes))
 
 -- ---- the slot that is settled next
-module _ (net : Plan) (table : Graph) (to : PointId) (making : Making) (way : IsUnderWay net table to making) (next : ℕ × ℤ) (some : next_slot making.slots ≡ Some next) (slot d : Slot) (read : slot ≡ get_or making.slots next.0 d) where
+module _ (net : Plan) (table : Graph) (to : PointId) (making : Making) (progress : IsUnderWay net table to making) (next : ℕ × ℤ) (some : next_slot making.slots ≡ Some next) (slot d : Slot) (read : slot ≡ get_or making.slots next.0 d) where
   there_is : slot ≡ (next_there net table to making next some).slot
   there_is = let there = next_there net table to making next some in read ∙ get_or_from_slice_get making.slots next.0 there.slot d there.here
 
   -- what the settling of the slot makes of the row
   module _ (marked : Slot) (edge : Edge) (follow : List Made) (slots : List Slot) (made : List Made) (is_marked : marked ≡ record slot { settled = true }) (is_edge : edge ≡ edge_in to slot next.1)
-      (follows : follow ≡ consequences net table edge) (is_slots : slots ≡ fold offered (slice_set making.slots next.0 marked) follow) (is_made : made ≡ making.made ++ fell to slot next.1) where
+      (follows : follow ≡ consequences net table edge) (is_slots : slots ≡ fold relaxed (slice_set making.slots next.0 marked) follow) (is_made : made ≡ making.made ++ improved to slot next.1) where
     after_is : after_slot net table to making next (next_there net table to making next some).slot ≡ record { slots = slots; made = made }
     after_is =
-        let slots_are : slots ≡ fold offered (slice_set making.slots next.0 (record slot { settled = true })) (consequences net table (edge_in to slot next.1)) =
-        is_slots ∙ (λ i. fold offered (slice_set making.slots next.0 (is_marked i)) ((follows ∙ ap (consequences net table) is_edge) i)) in
+        let slots_are : slots ≡ fold relaxed (slice_set making.slots next.0 (record slot { settled = true })) (consequences net table (edge_in to slot next.1)) =
+        is_slots ∙ (λ i. fold relaxed (slice_set making.slots next.0 (is_marked i)) ((follows ∙ ap (consequences net table) is_edge) i)) in
         ap (after_slot net table to making next) (sym there_is) ∙ (λ i. record { slots = sym slots_are i; made = sym is_made i })
 
-    pub way_on : IsUnderWay net table to (record { slots = slots; made = made })
-    way_on = subst (IsUnderWay net table to) after_is (under_way_next net table to making next some way)
+    pub still_under_way : IsUnderWay net table to (record { slots = slots; made = made })
+    still_under_way = subst (IsUnderWay net table to) after_is (under_way_next net table to making next some progress)
 
-    pub way_fewer : unsettled slots < unsettled making.slots
-    way_fewer = subst (λ (m : Making). unsettled m.slots < unsettled making.slots) after_is (fewer_after net table to making next some)
+    pub progress_fewer : unsettled slots < unsettled making.slots
+    progress_fewer = subst (λ (m : Making). unsettled m.slots < unsettled making.slots) after_is (fewer_after net table to making next some)

@@ -25,12 +25,12 @@ found_is_node nodes edge id some =
 abbrev pub AreStepsTo : List Node → (first last : PointId) → List PointId → ℕ → List NodeId → Type 0
 AreStepsTo nodes first last points i steps = (rest : List NodeId) → AllZip (IsNodeOf nodes) (keys_from first last (drop i points)) rest → AllZip (IsNodeOf nodes) (keys_from first first points) (steps ++ rest)
 
-module _ (nodes : List Node) (first last : PointId) (points : List PointId) (i : ℕ) (steps : List NodeId) (way : AreStepsTo nodes first last points i steps) where
+module _ (nodes : List Node) (first last : PointId) (points : List PointId) (i : ℕ) (steps : List NodeId) (progress : AreStepsTo nodes first last points i steps) where
   pub steps_more : (point d : PointId) (id : NodeId) → i < length points → point ≡ get_or points i d → IsNodeOf nodes (ordinary_key last point) id → AreStepsTo nodes first point points (i + 1) (steps ++ id ∷ [])
   steps_more point d id inside here is rest zip =
       let left : drop i points ≡ point ∷ drop (i + 1) points = drop_more points i d inside ∙ ap (λ (p : PointId). p ∷ drop (i + 1) points) (sym here) in
       subst (AllZip (IsNodeOf nodes) (keys_from first first points)) (sym (append_assoc steps (id ∷ []) rest))
-      (way (id ∷ rest) (subst (λ (ps : List PointId). AllZip (IsNodeOf nodes) (keys_from first last ps) (id ∷ rest)) (sym left) (is, zip)))
+      (progress (id ∷ rest) (subst (λ (ps : List PointId). AllZip (IsNodeOf nodes) (keys_from first last ps) (id ∷ rest)) (sym left) (is, zip)))
 
   pub steps_whole : (id : NodeId) → drop i points ≡ [] → IsNodeOf nodes (ordinary_key last first) id → AllZip (IsNodeOf nodes) (keys_from first first points) (steps ++ id ∷ [])
-  steps_whole id ended is = way (id ∷ []) (subst (λ (ps : List PointId). AllZip (IsNodeOf nodes) (keys_from first last ps) (id ∷ [])) (sym ended) (is, tt))
+  steps_whole id ended is = progress (id ∷ []) (subst (λ (ps : List PointId). AllZip (IsNodeOf nodes) (keys_from first last ps) (id ∷ [])) (sym ended) (is, tt))

@@ -1,5 +1,5 @@
 pub mod Ends
 pub mod LinesFrom
-pub mod Listed
+pub mod NodeTables
 pub mod RowParts
 pub mod Marks

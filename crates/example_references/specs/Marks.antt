@@ -1,5 +1,4 @@
--- What is kept of a derivation list, by marks: a node is marked where it is not kept, and the number of a kept one is how many of those
--- before it are.
+-- What is kept of a derivation list, by marks: a node is marked if it is not kept, and the number of a kept one is how many of those before it are.
 use Rattle.std.specs.Prelude.{Bool, true, false, List, [], ◌∷◌, ◌++◌, slice_get, take, not, Option, Some, None, if◌then◌else◌}
 use Rattle.std.specs.List.{slice_index_or, count_by}
 use Rattle.std.specs.Option.{option_map, option_and_then, option_map_or}
@@ -10,22 +9,25 @@ use Rattle.closure_model.specs.declared.derivation.Node.{Node}
 use Rattle.closure_model.specs.declared.derivation.NodeId.{NodeId}
 use Rattle.closure_model.specs.declared.derivation.Rule.{Rule}
 use Rattle.closure_model.specs.declared.derivation.Rule.TheVariants as by_rule
-use Rattle.derivation_edits.specs.Following.{Renumbering, moved_edge}
-use Rattle.derivation_edits.specs.Taken.{renumbering, point_in, is_new_bound, is_new_link}
-use Rattle.example_references.specs.declared.edited.Edited.{Edited}
+use Rattle.edit_laws.specs.KeptLists.{Renumbering, moved_edge}
+use Rattle.edit_laws.specs.EditNumbers.{renumbering, point_in, is_new_bound, is_new_link}
+use Rattle.example_references.specs.declared.edited_network.Edited.{Edited}
 
 -- the numbers after an edit
 abbrev pub numbers : Edited → Renumbering
 numbers edited = renumbering edited.before.now edited.edit.now edited.after.now
 
 -- the number of the old link that ends in the point of the same name as one of the new network, if it is not taken away
-abbrev pub link_before : Edited → Link → Option LinkId
-link_before edited link = option_and_then (λ point. option_and_then (numbers edited).links (activation edited.before.now point)) (point_in edited.after.now edited.before.now link.to)
+abbrev pub link_before_edit : Edited → Link → Option LinkId
+link_before_edit edited link = option_and_then (λ point. option_and_then (numbers edited).links (activation edited.before.now point))
+    (point_in edited.after.now edited.before.now link.to)
 
 -- a base node of the new network is that of a new bound or of a new link
 abbrev pub is_new_base : Edited → Rule → Bool
-is_new_base edited (by_rule.Bound name) = option_map_or (is_new_bound edited.before.now edited.edit.now edited.after.now) (slice_get edited.after.now.bounds name.0) false
-is_new_base edited (by_rule.Link name) = option_map_or (is_new_link edited.before.now edited.edit.now edited.after.now) (slice_get edited.after.now.links name.0) false
+is_new_base edited (by_rule.Bound name) = option_map_or (is_new_bound edited.before.now edited.edit.now edited.after.now)
+    (slice_get edited.after.now.bounds name.0) false
+is_new_base edited (by_rule.Link name) = option_map_or (is_new_link edited.before.now edited.edit.now edited.after.now)
+    (slice_get edited.after.now.links name.0) false
 is_new_base edited (by_rule.No first second) = false
 is_new_base edited (by_rule.Up first second) = false
 is_new_base edited (by_rule.Low name second) = false

@@ -9,9 +9,9 @@ use Rattle.closure_model.specs.Tables.{Graph, weight_of}
 use Rattle.closure_model.specs.declared.rows.Made.{Made}
 use Rattle.closure_model.specs.declared.rows.Slot.{Slot}
 
--- a slot after an edge was offered to its row
-abbrev pub offered_to : Made → Slot → Slot
-offered_to made slot = if is_slot_of made.edge slot then taken made slot else slot
+-- a slot after its row was relaxed with an edge
+abbrev pub relaxed_to : Made → Slot → Slot
+relaxed_to made slot = if is_slot_of made.edge slot then taken made slot else slot
 
 -- the ordinary edge from a point to another, if a table has one
 abbrev pub ordinary_at : Graph → (to from : PointId) → Option Edge

@@ -1,6 +1,6 @@
 //! Drawn edits.
 
-use crate::drawn::Draws;
+use crate::drawn_networks::Draws;
 use net_model::{Edit, Name, Network};
 
 /// How many kinds of edits there are.
@@ -20,8 +20,8 @@ pub(crate) fn kind(edit: &Edit) -> usize {
     }
 }
 
-/// An edit of any kind: what it adds has a name that is given, and all else that it names is in the network. None where the network has
-/// nothing of the kind.
+/// An edit of any kind: what it adds has a name that is given, and all else that it names is in the
+/// network. None if the network has nothing of the kind.
 pub(crate) fn drawn_edit(draws: &mut Draws, net: &Network, new: Name) -> Option<Edit> {
     match draws.draw(3) {
         0 => addition(draws, net, new),

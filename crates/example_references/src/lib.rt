@@ -1,44 +1,45 @@
-//! The reference rows, orders, rounds and refutations, and what an edit keeps of a derivation list, as plain slow programs on lists, each
-//! of which gives what its definition says, tried on small networks as tests. They stand on no part of the engine; a test makes the rounds
-//! of drawn networks by both, closes them without rounds, and follows drawn edits of them.
+//! The reference rows, orders, rounds and refutations, and what an edit keeps of a derivation list,
+//! as plain slow programs on lists, each of which gives what its definition says, tried on small
+//! networks as tests. They stand on no part of the engine; a test makes the rounds of drawn
+//! networks by both, closes them without rounds, and follows drawn edits of them.
 #![tactic(auto)]
 
 #[cfg(test)]
-mod closed;
+mod closure_match;
 #[cfg(test)]
-mod compared;
+mod comparison;
 #[cfg(test)]
-mod compared_edits;
-#[cfg(test)]
-mod deducing;
-#[cfg(test)]
-mod drawn;
+mod consequence_lists;
 #[cfg(test)]
 mod drawn_edits;
-mod edited;
+#[cfg(test)]
+mod drawn_networks;
+#[cfg(test)]
+mod edit_cases;
+#[cfg(test)]
+mod edit_comparison;
+mod edited_network;
 mod ending;
 #[cfg(test)]
-mod followed;
+mod kept_nodes;
 #[cfg(test)]
-mod following;
+mod names;
 #[cfg(test)]
 mod nodes;
 #[cfg(test)]
-mod ordering;
+mod orders;
 #[cfg(test)]
 mod plans;
 #[cfg(test)]
-mod reducing;
+mod reductions;
 #[cfg(test)]
-mod refuting;
-#[cfg(test)]
-mod renaming;
+mod refutation;
 #[cfg(test)]
 mod rounds;
 #[cfg(test)]
-mod settling;
+mod rows;
 #[cfg(test)]
-mod tried;
+mod small_cases;
 
-pub use edited::Edited;
+pub use edited_network::Edited;
 pub use ending::Ending;

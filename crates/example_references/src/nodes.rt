@@ -10,7 +10,7 @@ ghost use Rattle.closure_model.specs.ReferenceRow.{same_label};
 ghost use Rattle.closure_model.specs.ReferenceRound.{is_same_key, weight_for, node_for};
 ghost use Rattle.closure_model.specs.Tables.{weight_of};
 ghost use Rattle.closure_model.specs.declared.derivation.Node.{Node};
-ghost use Rattle.example_references.specs.Listed.{table_in};
+ghost use Rattle.example_references.specs.NodeTables.{table_in};
 
 use closure_model::{Node, NodeId};
 use net_model::{Edge, LinkId, Network, PointId, Weight};
@@ -92,7 +92,7 @@ pub(crate) fn at_place(place: usize, weight: Option<Weight>) -> Option<(usize, W
     }
 }
 
-/// The lesser of two weights with their places, the first where they are equal.
+/// The lesser of two weights with their places, the first if they are equal.
 pub(crate) fn lesser(
     first: Option<(usize, Weight)>,
     second: Option<(usize, Weight)>,
@@ -106,7 +106,8 @@ pub(crate) fn lesser(
     }
 }
 
-/// The weight that the table of nodes has for the ordinary edge from one point to another, if it has one.
+/// The weight that the table of nodes has for the ordinary edge from one point to another, if it
+/// has one.
 pub(crate) fn ordinary_weight(nodes: &[Node], from: PointId, to: PointId) -> Option<Weight>
     ensures { (net : Plan) → result ≡ weight_of (table_in net nodes.now) (ordinary_key from to) }
 {

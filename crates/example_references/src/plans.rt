@@ -72,7 +72,8 @@ fn up_rule(words: &mut SplitWhitespace<'_>) -> Option<Rule> {
     Some(Rule::Up(first, premise(words.next())?))
 }
 
-/// The label of the edge of a line: the line of a link has it as its link, that of an upper-case or cross-case edge names it.
+/// The label of the edge of a line: the line of a link has it as its link, that of an upper-case or
+/// cross-case edge names it.
 fn label(net: &Network, rule: Rule, words: &mut SplitWhitespace<'_>) -> Option<Option<LinkId>> {
     match rule {
         Rule::Link(link) => Some(Some(link)),

@@ -6,26 +6,28 @@ ghost use Rattle.net_model.specs.Network.{Plan};
 ghost use Rattle.closure_model.specs.Derivations.{base_nodes, base_support, bound_node, link_node};
 ghost use Rattle.closure_model.specs.ReferenceRound.{rule_for, with_one, round_made, after_round};
 ghost use Rattle.closure_model.specs.ReferenceRounds.{RoundsEnd};
-ghost use Rattle.example_references.specs.Ends.{ending_of};
-ghost use Rattle.example_references.specs.Listed.{table_in, support_in};
+ghost use Rattle.example_references.specs.Ends.{rounds_ending_of};
+ghost use Rattle.example_references.specs.NodeTables.{table_in, support_in};
 
 use crate::ending::Ending;
 use crate::nodes::{node_for, points};
-use crate::ordering::sought;
-use crate::settling::row;
+use crate::orders::sought;
+use crate::rows::row;
 use closure_model::rows::{Made, Why};
 use closure_model::{Node, Rule};
 use net_model::{BoundId, LinkId, Network, PointId, bound_edge, link_edge};
 use std::alloc::Global;
 use std::test::Fail;
 
-/// Makes the rounds from nodes, and says how many were made and how they end. The nodes are then those of the rounds too.
+/// Makes the rounds from nodes, and says how many were made and how they end. The nodes are then
+/// those of the rounds too.
 pub(crate) fn rounds(
     alloc: Global,
     net: &Network,
     nodes: &mut Vec<Node>,
 ) -> Result<(u64, Ending), Fail>
-    ensures { IfOk result (λ end. RoundsEnd net.now (support_in net.now nodes.old.items) end.0 (support_in net.now nodes.new.items) (ending_of end.1)) }
+    ensures { IfOk result (λ end. RoundsEnd net.now (support_in net.now nodes.old.items) end.0
+        (support_in net.now nodes.new.items) (rounds_ending_of end.1)) }
 {
     for count in 0..u64::MAX {
         match sought(alloc, net, nodes.as_slice())? {
@@ -40,17 +42,20 @@ pub(crate) fn rounds(
     Err(Fail::from("the rounds do not end"))
 }
 
-/// Makes one round, and says whether anything fell in it.
+/// Makes one round, and says whether anything improved in it.
 pub(crate) fn round(alloc: Global, net: &Network, nodes: &mut Vec<Node>) -> Result<bool, Fail>
-    ensures after { OnOk result (support_in net.now nodes.new.items ≡ after_round net.now (support_in net.now nodes.old.items)) }
-    ensures fell { IfOk result (λ fell. fell ≡ not (length (round_made net.now (table_in net.now nodes.old.items)) == 0)) }
+    ensures after { OnOk result (support_in net.now nodes.new.items ≡ after_round net.now
+        (support_in net.now nodes.old.items)) }
+    ensures improved { IfOk result
+        (λ improved. improved ≡ not (length
+        (round_made net.now (table_in net.now nodes.old.items)) == 0)) }
 {
     let made = round_made(alloc, net, nodes.as_slice())?;
     push_made(alloc, made.as_slice(), nodes)?;
     Ok(!made.is_empty())
 }
 
-/// The edges that fall in a round: the rows of all targets, each against the same table.
+/// The edges that improve in a round: the rows of all targets, each against the same table.
 fn round_made(alloc: Global, net: &Network, nodes: &[Node]) -> Result<Vec<Made>, Fail>
     ensures { IfOk result (λ made. made.items ≡ round_made net.now (table_in net.now nodes.now)) }
 {
@@ -63,9 +68,11 @@ fn round_made(alloc: Global, net: &Network, nodes: &[Node]) -> Result<Vec<Made>,
     Ok(made)
 }
 
-/// Gives each edge that fell its node, in their order.
+/// Gives each edge that improved its node, in their order.
 fn push_made(alloc: Global, made: &[Made], nodes: &mut Vec<Node>) -> Result<(), Fail>
-    ensures { OnOk result ((net : Plan) → support_in net nodes.new.items ≡ fold (with_one nodes.old.items) (support_in net nodes.old.items) made.now) }
+    ensures { OnOk result ((net : Plan)
+        → support_in net nodes.new.items ≡ fold (with_one nodes.old.items)
+        (support_in net nodes.old.items) made.now) }
 {
     let mut before = Vec::new(alloc);
     before.extend_from_slice(nodes.as_slice())?;
@@ -75,9 +82,11 @@ fn push_made(alloc: Global, made: &[Made], nodes: &mut Vec<Node>) -> Result<(), 
     Ok(())
 }
 
-/// Gives an edge that fell its node.
+/// Gives an edge that improved its node.
 fn push_node(before: &[Node], made: &Made, nodes: &mut Vec<Node>) -> Result<(), Fail>
-    ensures { OnOk result ((net : Plan) → support_in net nodes.new.items ≡ with_one before.now (support_in net nodes.old.items) made.now) }
+    ensures { OnOk result ((net : Plan)
+        → support_in net nodes.new.items ≡ with_one before.now
+        (support_in net nodes.old.items) made.now) }
 {
     if let Some(rule) = rule_for(before, nodes.as_slice(), &made.why) {
         nodes.push(Node {
@@ -88,8 +97,8 @@ fn push_node(before: &[Node], made: &Made, nodes: &mut Vec<Node>) -> Result<(), 
     Ok(())
 }
 
-/// The rule of a new node: its premise in the row is the node that the key now has, a first premise the one that its key had before
-/// the round.
+/// The rule of a new node: its premise in the row is the node that the key now has, a first premise
+/// the one that its key had before the round.
 fn rule_for(before: &[Node], now: &[Node], why: &Why) -> Option<Rule>
     ensures { result ≡ rule_for before.now now.now why.now }
 {
@@ -114,7 +123,8 @@ pub(crate) fn base_nodes(alloc: Global, net: &Network) -> Result<Vec<Node>, Fail
 }
 
 fn push_bounds(net: &Network, nodes: &mut Vec<Node>) -> Result<(), Fail>
-    ensures { OnOk result (nodes.new.items ≡ nodes.old.items ++ map bound_node (enumerate_from 0 net.now.bounds)) }
+    ensures { OnOk result (nodes.new.items ≡ nodes.old.items ++ map bound_node
+        (enumerate_from 0 net.now.bounds)) }
 {
     for (place, bound) in net.bounds().iter().enumerate() {
         let rule = Rule::Bound(BoundId(place as u32));
@@ -125,7 +135,8 @@ fn push_bounds(net: &Network, nodes: &mut Vec<Node>) -> Result<(), Fail>
 }
 
 fn push_links(net: &Network, nodes: &mut Vec<Node>) -> Result<(), Fail>
-    ensures { OnOk result (nodes.new.items ≡ nodes.old.items ++ map link_node (enumerate_from 0 net.now.links)) }
+    ensures { OnOk result (nodes.new.items ≡ nodes.old.items ++ map link_node
+        (enumerate_from 0 net.now.links)) }
 {
     for (place, link) in net.links().iter().enumerate() {
         let name = LinkId(place as u32);

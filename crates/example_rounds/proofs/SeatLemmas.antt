@@ -1,9 +1,9 @@
--- A draw changes what a seat holds, or how often it was told that there is nothing left, and nothing else.
+-- A draw changes which numbers a seat owns, or how often it found that there is nothing left, and nothing else.
 use Rattle.std.proofs.Common.{◌≡◌, ℕ, Bool, true, false, nat_lt, Option, refl, sym, subst}
-use Rattle.work_board.specs.Boards.{SeatSeen, Draws}
+use Rattle.work_board.specs.Boards.{BoardSeatSeen, Draws}
 use Rattle.example_rounds.specs.Seats.{SameSeat}
 
-pub draws_same : (before after : SeatSeen) (result : Option ℕ) → Draws before after result → SameSeat before after
+pub draws_same : (before after : BoardSeatSeen) (result : Option ℕ) → Draws before after result → SameSeat before after
 draws_same before after result d = by (nat_lt d.number before.view.targets) refl
   where
     by : (b : Bool) → nat_lt d.number before.view.targets ≡ b → SameSeat before after

@@ -1,9 +1,9 @@
 -- What stays the same of a seat while it draws.
 use Rattle.std.specs.Prelude.{◌≡◌}
-use Rattle.work_board.specs.Boards.{SeatSeen}
+use Rattle.work_board.specs.Boards.{BoardSeatSeen}
 
--- all but what it holds and how often it was told that there is nothing left
-pub record SameSeat (before after : SeatSeen) : Type 0 where
+-- all but what it owns and how often it found that there is nothing left
+pub record SameSeat (before after : BoardSeatSeen) : Type 0 where
   pub board : after.board ≡ before.board
   pub targets : after.view.targets ≡ before.view.targets
   pub drawer : after.view.drawer ≡ before.view.drawer

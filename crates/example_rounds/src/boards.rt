@@ -1,7 +1,7 @@
 //! Draws at a board by one seat and by several, and how seats are split and joined.
 
 ghost use Rattle.std.specs.Prelude.{◌≡◌, ◌≤◌, ◌<◌};
-ghost use Rattle.work_board.specs.Boards.{IsSeatOf};
+ghost use Rattle.work_board.specs.Boards.{IsSeatOfBoard};
 ghost use Rattle.example_rounds.specs.Seats.{SameSeat};
 
 use std::alloc::Global;
@@ -9,9 +9,9 @@ use std::process::Abort;
 use std::test::Fail;
 use work_board::{Board, Seat};
 
-/// The next number, unless the seat was told that there is nothing left.
+/// The next number, unless the seat has found that there is nothing left.
 fn next(board: &Board, seat: &mut Seat) -> Option<u32>
-    requires { IsSeatOf board.now seat.old }
+    requires { IsSeatOfBoard board.now seat.old }
     ensures { SameSeat seat.old seat.new }
 {
     if seat.told() {
@@ -20,7 +20,7 @@ fn next(board: &Board, seat: &mut Seat) -> Option<u32>
     board.draw(seat)
 }
 
-/// One seat draws every number once, in order, and is then told that there is nothing left.
+/// One seat draws every number once, in order, and then finds that there is nothing left.
 fn try_alone<R: Abort>(rt: &R, alloc: Global) -> Result<(), Fail> {
     let (board, mut seat) = Board::new(alloc, 3, 1)?;
     for number in 0..3 {
@@ -37,8 +37,8 @@ fn try_alone<R: Abort>(rt: &R, alloc: Global) -> Result<(), Fail> {
 
 /// Two seats draw in turn; each number is drawn once.
 fn try_in_turn<R: Abort>(rt: &R, board: &Board, first: &mut Seat, second: &mut Seat)
-    requires first { IsSeatOf board.now first.old }
-    requires second { IsSeatOf board.now second.old }
+    requires first { IsSeatOfBoard board.now first.old }
+    requires second { IsSeatOfBoard board.now second.old }
     ensures first { SameSeat first.old first.new }
     ensures second { SameSeat second.old second.new }
 {

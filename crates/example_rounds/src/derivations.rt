@@ -39,7 +39,8 @@ fn is_link(net: &Network, name: LinkId) -> bool
 
 /// The edge of a bound.
 fn bound_edge(net: &Network, name: BoundId) -> Option<Edge>
-    ensures { IfSome result (λ edge. option_map bound_edge (slice_get net.now.bounds name.0) ≡ Some edge) }
+    ensures { IfSome result (λ edge. option_map bound_edge (slice_get net.now.bounds name.0) ≡ Some
+        edge) }
 {
     let bound = net.bounds().get(name.0 as usize).copied()?;
     Some(net_model::bound_edge(&bound))
@@ -47,7 +48,8 @@ fn bound_edge(net: &Network, name: BoundId) -> Option<Edge>
 
 /// The edge of a link.
 fn link_edge(net: &Network, name: LinkId) -> Option<Edge>
-    ensures { IfSome result (λ edge. option_map (link_edge name) (slice_get net.now.links name.0) ≡ Some edge) }
+    ensures { IfSome result (λ edge. option_map (link_edge name)
+        (slice_get net.now.links name.0) ≡ Some edge) }
 {
     let link = net.links().get(name.0 as usize).copied()?;
     if link.high.unsigned_abs() > MOST_WEIGHT {
@@ -57,7 +59,8 @@ fn link_edge(net: &Network, name: LinkId) -> Option<Edge>
 }
 
 fn low(net: &Network, dag: &Dag, name: LinkId, second: NodeId) -> Option<Edge>
-    ensures { IfSome result (λ edge. option_and_then (lower_case net.now name) (edge_at dag.now second) ≡ Some edge) }
+    ensures { IfSome result (λ edge. option_and_then (lower_case net.now name)
+        (edge_at dag.now second) ≡ Some edge) }
 {
     let second = premise(dag, second)?;
     if !is_link(net, name) {
@@ -67,7 +70,9 @@ fn low(net: &Network, dag: &Dag, name: LinkId, second: NodeId) -> Option<Edge>
 }
 
 fn up(dag: &Dag, first: NodeId, second: NodeId) -> Option<Edge>
-    ensures { IfSome result (λ edge. option_and_then (λ one. option_and_then (upper_case one) (edge_at dag.now second)) (edge_at dag.now first) ≡ Some edge) }
+    ensures { IfSome result (λ edge. option_and_then
+        (λ one. option_and_then (upper_case one) (edge_at dag.now second))
+        (edge_at dag.now first) ≡ Some edge) }
 {
     let first = premise(dag, first)?;
     let second = premise(dag, second)?;
@@ -75,7 +80,8 @@ fn up(dag: &Dag, first: NodeId, second: NodeId) -> Option<Edge>
 }
 
 fn without_label(net: &Network, dag: &Dag, premise_id: NodeId) -> Option<Edge>
-    ensures { IfSome result (λ edge. option_and_then (removal net.now) (edge_at dag.now premise_id) ≡ Some edge) }
+    ensures { IfSome result (λ edge. option_and_then (removal net.now)
+        (edge_at dag.now premise_id) ≡ Some edge) }
 {
     let premise = premise(dag, premise_id)?;
     let label = premise.label?;
@@ -85,7 +91,8 @@ fn without_label(net: &Network, dag: &Dag, premise_id: NodeId) -> Option<Edge>
     removal(net, &premise)
 }
 
-/// What a rule gives from the nodes of a list; of no-case and cross-case nothing, since the list below has none.
+/// What a rule gives from the nodes of a list; of no-case and cross-case nothing, since the list
+/// below has none.
 pub(crate) fn made(net: &Network, dag: &Dag, rule: Rule) -> Option<Edge>
     ensures { IfSome result (λ edge. given_by net.now dag.now rule ≡ Some edge) }
 {

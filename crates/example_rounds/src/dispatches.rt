@@ -1,4 +1,5 @@
-//! The lower bounds and waits of the closures of small networks, and what is left of them without those that others imply.
+//! The lower bounds and waits of the closures of small networks, and what is left of them without
+//! those that others imply.
 
 ghost use Rattle.std.specs.Prelude.{◌≡◌, ◌≤◌, ◌<◌, length, IfOk, IfSome};
 
@@ -18,7 +19,8 @@ fn dispatch<R: Threads + Sync>(
     alloc: Global,
     net: &Network,
 ) -> Result<Option<Dispatch>, Fail>
-    ensures { IfOk result (λ found. IfSome found (λ dispatch. length dispatch.kept ≡ length net.now.points)) }
+    ensures { IfOk result (λ found. IfSome found
+        (λ dispatch. length dispatch.kept ≡ length net.now.points)) }
 {
     if net.delay() != 0 {
         return Err(Fail::from("a delay"));
@@ -51,7 +53,7 @@ fn push_point(
     Ok(())
 }
 
-/// Those of so many points.
+/// The lower bounds and waits of so many points.
 fn push_points(
     alloc: Global,
     dispatch: &Dispatch,
@@ -66,7 +68,8 @@ fn push_points(
     Ok(())
 }
 
-/// Those of so many points, and after ` => ` what is left of them without those that others imply.
+/// The lower bounds and waits of so many points, and after ` => ` what is left of them without
+/// those that others imply.
 fn push_both(alloc: Global, dispatch: Dispatch, points: u32, text: &mut String) -> Result<(), Fail>
     requires { points ≤ length dispatch.kept }
 {
@@ -75,7 +78,7 @@ fn push_both(alloc: Global, dispatch: Dispatch, points: u32, text: &mut String) 
     push_points(alloc, &dispatch.slim(), points, text)
 }
 
-/// Those of the closure of a network, before and after.
+/// The lower bounds and waits of the closure of a network, before and after.
 fn shown<R: Threads + Sync>(rt: &R, alloc: Global, parts: &str) -> Result<String, Fail> {
     let net = network(alloc, parts)?;
     let mut text = String::new(alloc);
@@ -94,12 +97,15 @@ fn check<R: Threads + Sync + Abort>(rt: &R, alloc: Global, row: &str) -> Result<
     Ok(())
 }
 
-/// Rows: the parts of a network, its lower bounds and waits, and what is left of them; points and links go by their numbers. In order: a
-/// bound and a wait; a bound; none. A bound that two others together are beyond, that they just reach, and that they do not reach. One that
-/// is just reached over a link's shortest duration, and one only over its longest, each beside a wait that falls with a bound on the end of
-/// its link. A wait that a bound on its activation point just reaches, and one that it does not. A wait that a bound and another wait
-/// together just reach, and one that they do not. Bounds, and then waits, that are left out over others which are left out too: of another
-/// point, with the points numbered from the first on and from the last, and of the same point. A bound on the end of another link.
+/// Rows: the parts of a network, its lower bounds and waits, and what is left of them; points and
+/// links stand by their numbers. In order: a bound and a wait; a bound; none. A bound that two
+/// others together are beyond, that they just reach, and that they do not reach. One that is just
+/// reached over a link's shortest duration, and one only over its longest, each beside a wait that
+/// is dropped with a bound on the end of its link. A wait that a bound on its activation point just
+/// reaches, and one that it does not. A wait that a bound and another wait together just reach, and
+/// one that they do not. Bounds, and then waits, that are left out over others which are left out
+/// too: of another point, with the points numbered from the first on and from the last, and of the
+/// same point. A bound on the end of another link.
 const DISPATCHES: &str =
     "point A|point C|point X|bound b X C 2|link A 3 8 C => 2 after 0 by 3|2 waits for 0 by 6| => 2 after 0 by 3|2 waits for 0 by 6|
 point A|point B|bound b B A -2 => 1 after 0 by 2| => 1 after 0 by 2|

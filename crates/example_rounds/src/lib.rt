@@ -1,4 +1,5 @@
-//! Reductions, derivation lists, tables, orders and rounds of small networks, and boards: examples, tried as tests.
+//! Reductions, derivation lists, tables, orders and rounds of small networks, and boards: examples,
+//! tried as tests.
 #![tactic(auto)]
 
 #[cfg(test)]
@@ -8,7 +9,7 @@ mod derivations;
 #[cfg(test)]
 mod dispatches;
 #[cfg(test)]
-mod following;
+mod edited_stores;
 #[cfg(test)]
 mod gates;
 #[cfg(test)]

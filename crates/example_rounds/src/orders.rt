@@ -1,4 +1,4 @@
-//! An order that is kept while edges fall.
+//! An order that is kept while edges improve.
 
 use crate::networks::network;
 use labelled_graph::Table;
@@ -11,8 +11,8 @@ use std::test::Fail;
 /// The order of its points is C, A, B.
 const TWO_BOUNDS: &str = "point A|point B|point C|bound b1 A C -1|bound b2 B A -1";
 
-/// Edges that may fall by their ends and weight, and whether they go along that order.
-const FALLING: [(u32, u32, i64, bool); 6] = [
+/// Edges that may improve, by their ends and weight, and whether they go along that order.
+const IMPROVING: [(u32, u32, i64, bool); 6] = [
     (1, 2, -4, true),
     (0, 2, -4, true),
     (2, 0, -1, false),
@@ -36,7 +36,7 @@ fn try_edge<R: Abort>(rt: &R, kept: &KeptOrder, edge: Edge, along: bool) {
 }
 
 fn try_edges<R: Abort>(rt: &R, kept: &KeptOrder) {
-    for (from, to, weight, along) in FALLING {
+    for (from, to, weight, along) in IMPROVING {
         let edge = Edge {
             from: PointId(from),
             to: PointId(to),

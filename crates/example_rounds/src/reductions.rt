@@ -40,7 +40,7 @@ drop;B C D 4 => B C - 4
 drop;C A B -3 => C A - -2
 drop;B C - -8 => none";
 
-/// What a rule gives from its premises, `None` where they can't be read.
+/// What a rule gives from its premises, `None` if they can't be read.
 fn given(net: &Network, rule: &str, first: &str, second: &str) -> Option<Option<Edge>> {
     let first = edge(net, first)?;
     match rule.split_once(' ') {

@@ -38,7 +38,7 @@ fn line_of(lines: &[NodeId], id: NodeId) -> Option<usize> {
     None
 }
 
-/// What a line says of its rule after the word of it.
+/// What stands in a line after the word of its rule.
 #[derive(Clone, Copy)]
 enum Piece {
     Nothing,
@@ -46,7 +46,7 @@ enum Piece {
     Premise(NodeId),
 }
 
-/// The word of a rule, the name that it tells, and its premises.
+/// The word of a rule, the name that it states, and its premises.
 fn pieces(net: &Network, rule: Rule) -> (&'static str, Piece, Piece) {
     match rule {
         Rule::Bound(bound) => ("bound", Piece::Name(bound_name(net, bound)), Piece::Nothing),
@@ -116,7 +116,7 @@ fn push_rule(
     push_piece(alloc, lines, second, text)
 }
 
-/// The label as a line has it: a link's own edge goes without.
+/// The label as a line has it: a link's own edge has none.
 fn label_of(node: &Node) -> Option<LinkId> {
     match node.rule {
         Rule::Link(_) => None,
@@ -319,7 +319,7 @@ fn try_ends<R: Threads + Sync + Abort>(rt: &R, alloc: Global, workers: u32) -> R
     Ok(())
 }
 
-/// The nodes of the rounds that are told one by one, with so many workers.
+/// The nodes of the rounds that are listed one by one, with so many workers.
 fn try_nodes<R: Threads + Sync + Abort>(rt: &R, alloc: Global, workers: u32) -> Result<(), Fail>
     requires { (1 ≤ workers) × (workers ≤ 64) }
 {
@@ -328,7 +328,7 @@ fn try_nodes<R: Threads + Sync + Abort>(rt: &R, alloc: Global, workers: u32) -> 
     Ok(())
 }
 
-/// The plan whose rounds are told one by one.
+/// The plan whose rounds are listed one by one.
 const ONE_LINK: &str = "point A|point C|point D|bound b1 D C 1|bound b2 C D -1|link A 3 8 C";
 
 /// Its nodes: those of the bounds and the link, six of round 1, two of round 2.

@@ -1,4 +1,4 @@
-//! Which rows are made in later rounds, and that the gate is told their targets.
+//! Which rows are made in later rounds, and that the gate is called with their targets.
 
 ghost use Rattle.std.specs.Prelude.{◌≡◌, length};
 ghost use Rattle.closure_model.specs.ReferenceRow.{HasWeightsWithin};
@@ -22,15 +22,15 @@ const PLAN: &str = "point A|point C|point D|bound b1 D C 1|bound b2 C D -1|link 
 
 /// Counts the calls for each of three targets.
 #[derive(Drop)]
-struct Counting {
+struct CallCounter {
     a: AtomicU64,
     c: AtomicU64,
     d: AtomicU64,
 }
 
-impl Counting {
-    fn new() -> Counting {
-        Counting {
+impl CallCounter {
+    fn new() -> CallCounter {
+        CallCounter {
             a: AtomicU64::new(0),
             c: AtomicU64::new(0),
             d: AtomicU64::new(0),
@@ -45,7 +45,7 @@ impl Counting {
     }
 }
 
-impl Gate for Counting {
+impl Gate for CallCounter {
     fn before(&self, target: u32) {
         match target {
             0 => self.a.fetch_add(1, Ordering::SeqCst),
@@ -61,7 +61,7 @@ fn try_propagation<R: Threads + Sync + Abort>(
     alloc: Global,
     net: &Network,
 ) -> Result<(), Fail> {
-    let gate = Counting::new();
+    let gate = CallCounter::new();
     let mut store = Plain::of(alloc, net)?;
     let outcome = propagate(rt, alloc, net, &mut store, 1, &gate)?;
     assert!(rt;
@@ -77,8 +77,8 @@ fn try_propagation<R: Threads + Sync + Abort>(
     Ok(())
 }
 
-/// Negative edges go from C to A and to D, so these are stale after C; and the rows of these two are made by two workers, the gate
-/// called with A and D.
+/// Negative edges go from C to A and to D, so these are stale after C; and the rows of these two
+/// are made by two workers, the gate called with A and D.
 fn try_stale<R: Threads + Sync + Abort>(
     rt: &R,
     alloc: Global,
@@ -89,7 +89,7 @@ fn try_stale<R: Threads + Sync + Abort>(
     requires within { HasWeightsWithin net.now table.now }
     requires three { length net.now.points ≡ 3 }
 {
-    let gate = Counting::new();
+    let gate = CallCounter::new();
     let changed = [PointId(1)];
     let targets = stale(alloc, table, net, changed.as_slice())?;
     assert!(rt; targets.as_slice() == [PointId(0), PointId(2)].as_slice());

@@ -1,4 +1,5 @@
-//! Rows, changes and copies of the base tables of small networks, and the orders and cycles of their points.
+//! Rows, changes and copies of the base tables of small networks, and the orders and cycles of
+//! their points.
 
 ghost use Rattle.std.specs.Prelude.{◌≡◌, length};
 

@@ -1,4 +1,5 @@
-//! The rows of a round by several workers: what each makes, and that others are made while one is held.
+//! The rows of a round by several workers: what each makes, and that others are made while one is
+//! blocked.
 
 ghost use Rattle.std.specs.Prelude.{◌≡◌, length, IfOk};
 ghost use Rattle.closure_model.specs.ReferenceRow.{HasWeightsWithin};
@@ -20,7 +21,7 @@ use work_board::Board;
 /// The points A, C and D have the numbers 0, 1 and 2.
 const PLAN: &str = "point A|point C|point D|bound b1 D C 1|bound b2 C D -1|link A 3 8 C";
 
-/// The targets of the rows of its base table, and how many edges fall in each.
+/// The targets of the rows of its base table, and how many edges improve in each.
 const ROWS: [(u32, usize); 3] = [(0, 4), (1, 0), (2, 2)];
 
 /// A plan of 20 points.
@@ -60,11 +61,11 @@ fn worked(alloc: Global, net: &Network, table: &Table) -> Result<Vec<NewRow>, Fa
     )?)
 }
 
-/// Counts the rows that have begun, and holds that of one target until all three have.
+/// Counts the rows that have begun, and blocks that of one target until all three have.
 #[derive(Drop)]
 struct Holding {
     target: u32,
-    begun: AtomicU64,
+    started_count: AtomicU64,
     failed: AtomicBool,
 }
 
@@ -72,7 +73,7 @@ impl Holding {
     fn of(target: u32) -> Holding {
         Holding {
             target,
-            begun: AtomicU64::new(0),
+            started_count: AtomicU64::new(0),
             failed: AtomicBool::new(false),
         }
     }
@@ -80,29 +81,30 @@ impl Holding {
     /// Looks until all rows have begun, for so many turns at most, and says whether they have.
     fn all_begin(&self) -> bool {
         for _ in 0..TURNS {
-            if self.begun.load(Ordering::SeqCst) == 3 {
+            if self.started_count.load(Ordering::SeqCst) == 3 {
                 return true;
             }
         }
         false
     }
 
-    /// Whether the row was let go because all rows had begun, and as many have begun as there are.
+    /// Whether the row was released because all rows had begun, and as many have begun as there
+    /// are.
     fn was_met(&self) -> bool {
-        !self.failed.load(Ordering::SeqCst) && self.begun.load(Ordering::SeqCst) == 3
+        !self.failed.load(Ordering::SeqCst) && self.started_count.load(Ordering::SeqCst) == 3
     }
 }
 
 impl Gate for Holding {
     fn before(&self, target: u32) {
-        self.begun.fetch_add(1, Ordering::SeqCst);
+        self.started_count.fetch_add(1, Ordering::SeqCst);
         if target == self.target && !self.all_begin() {
             self.failed.store(true, Ordering::SeqCst);
         }
     }
 }
 
-/// A round by two workers, of which one holds the row of a target until the other rows have begun.
+/// A round by two workers, of which one blocks the row of a target until the other rows have begun.
 fn try_held<R: Threads + Sync + Abort>(
     rt: &R,
     alloc: Global,
@@ -120,7 +122,7 @@ fn try_held<R: Threads + Sync + Abort>(
     Ok(())
 }
 
-/// A round of twenty rows by seven workers, each of which begins one before any goes on.
+/// A round of twenty rows by seven workers, each of which begins one before any continues.
 fn try_seven<R: Threads + Sync + Abort>(
     rt: &R,
     alloc: Global,

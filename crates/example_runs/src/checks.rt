@@ -6,11 +6,12 @@ use std::test::Fail;
 use std::thread::Threads;
 use stnu_run::run;
 
-/// Rows: the exit status, a plan, and what `check` prints of it; `|` stands for a line end. In order: no point at all; two bounds that
-/// can both be kept, and two that cannot; a point that comes together with the end of a link; a plan of which every single situation
-/// has a schedule, though none can be found without foresight; the same where the duration is known; a wait; a wait by the cross-case
-/// rule; a ring of two links; two waits that cross; a drive with images, with the least number with which it can be kept and with one
-/// below; and plans that are refused.
+/// Rows: the exit status, a plan, and what `check` prints of it; `|` stands for a line end. In
+/// order: no point at all; two bounds that can both be kept, and two that cannot; a point that
+/// comes together with the end of a link; a plan of which every single situation has a schedule,
+/// though none can be found without foresight; the same if the duration is known; a wait; a wait by
+/// the cross-case rule; a ring of two links; two waits that cross; a drive with images, with the
+/// least number with which it can be kept and with one below; and plans that are refused.
 const ROWS: &str = "0 stnu 1|end => controllable
 0 stnu 1|point A|point B|bound b1 A B 5|bound b2 B A -2|end => controllable
 1 stnu 1|point A|point B|bound b1 A B 3|bound b2 B A -5|end => not controllable|certificate 1|refutation|bound b1 A B 3|bound b2 B A -5|no 1 2 A A -2|walk 3|end
@@ -179,7 +180,8 @@ const OPTIONS: [&str; 13] = [
     "--workers=7 --engine cells",
 ];
 
-/// The places of the rows that are tried with each of these: a plan without foresight, and two waits that cross.
+/// The places of the rows that are tried with each of these: a plan without foresight, and two
+/// waits that cross.
 const WITH_OPTIONS: [usize; 2] = [4, 9];
 
 fn try_with_options<R: Abort + AllocGlobal + Threads + Sync>(

@@ -6,9 +6,10 @@ use std::process::Abort;
 use std::test::Fail;
 use std::thread::Threads;
 
-/// Rows: the words, the input, what is put, and the exit status; `|` stands for a line end. In order: two waits of which one comes by the
-/// cross-case rule; a day of three drives; a wait, in situations by number; a point that comes together with the end of a link; three points
-/// in a row; no point at all; a plan that cannot be kept; plans with a fault; forged networks; and words.
+/// Rows: the words, the input, what is put, and the exit status; `|` stands for a line end. In
+/// order: two waits of which one comes by the cross-case rule; a day of three drives; a wait, in
+/// situations by number; a point that comes together with the end of a link; three points in a row;
+/// no point at all; a plan that cannot be kept; plans with a fault; forged networks; and words.
 const RUNS: &str =
     r#"stnu play shortest => stnu 1|point A1|point C1|point A2|point C2|bound b1 C1 C2 2|link A1 1 3 C1|link A2 2 6 C2|end| => controllable|time A1 2|time C1 3|time A2 0|time C2 2| => 0
 stnu play longest => stnu 1|point A1|point C1|point A2|point C2|bound b1 C1 C2 2|link A1 1 3 C1|link A2 2 6 C2|end| => controllable|time A1 3|time C1 6|time A2 0|time C2 6| => 0

@@ -8,10 +8,11 @@ use std::test::Fail;
 use std::thread::Threads;
 use stnu_run::run;
 
-/// Rows: the words, the input, what is put, and the exit status; `|` stands for a line end. In order: the plan that cannot be kept of two
-/// bounds, as a document, and one that can, with its proof; an empty plan shown as a document, and that shown as a text; documents and
-/// plans of version 2; documents with a fault; where a document ends; parts that are refused; a certificate and events after a document;
-/// and words.
+/// Rows: the words, the input, what is put, and the exit status; `|` stands for a line end. In
+/// order: the plan that cannot be kept of two bounds, as a document, and one that can, with its
+/// proof; an empty plan shown as a document, and that shown as a text; documents and plans of
+/// version 2; documents with a fault; where a document ends; parts that are refused; a certificate
+/// and events after a document; and words.
 const RUNS: &str =
     r#"stnu check --json => {"stnu":1,"points":["A","B"],"bounds":[{"name":"b1","from":"A","to":"B","most":3},{"name":"b2","from":"B","to":"A","most":-5}]}|end| => not controllable|certificate 1|refutation|bound b1 A B 3|bound b2 B A -5|no 1 2 A A -2|walk 3|end| => 1
 stnu show --print-json => stnu 1|end| => {|  "bounds": [],|  "delay": 0,|  "links": [],|  "points": [],|  "stnu": 2|}|end| => 0

@@ -1,4 +1,5 @@
-//! Runs of the parts of the workbench on examples, as tests: what no contract says, and each public call once on its way.
+//! Runs of the parts of the workbench on examples, as tests: what no contract says, and each public
+//! call once.
 #![tactic(auto)]
 
 #[cfg(test)]

@@ -14,18 +14,18 @@ use std::test::Fail;
 const MOST: u64 = 1_073_741_824;
 
 // An answer of the reader, with the text and the number that stand then.
-type Answer = (Line, &'static [u8], u32);
+type PortAnswer = (Line, &'static [u8], u32);
 
 // An input, how many bytes it may have, and what its reader answers, call by call.
-struct Reading {
+struct ReadingCase {
     input: &'static [u8],
     most: u64,
     failing_take: u32,
-    answers: &'static [Answer],
+    answers: &'static [PortAnswer],
 }
 
-const READINGS: &[Reading] = &[
-    Reading {
+const READINGS: &[ReadingCase] = &[
+    ReadingCase {
         input: b"point A\npoint B",
         most: 10,
         failing_take: 0,
@@ -35,13 +35,13 @@ const READINGS: &[Reading] = &[
             (Line::TooMuch(10), b"", 2),
         ],
     },
-    Reading {
+    ReadingCase {
         input: b"ab\ncd\n",
         most: 5,
         failing_take: 0,
         answers: &[(Line::Text, b"ab", 1), (Line::TooMuch(5), b"", 2)],
     },
-    Reading {
+    ReadingCase {
         input: b"one\r\n\nlast",
         most: MOST,
         failing_take: 0,
@@ -52,13 +52,13 @@ const READINGS: &[Reading] = &[
             (Line::End, b"", 3),
         ],
     },
-    Reading {
+    ReadingCase {
         input: b"",
         most: MOST,
         failing_take: 0,
         answers: &[(Line::End, b"", 0), (Line::End, b"", 0)],
     },
-    Reading {
+    ReadingCase {
         input: b"a\nbc\n",
         most: MOST,
         failing_take: 1,
@@ -66,7 +66,7 @@ const READINGS: &[Reading] = &[
     },
 ];
 
-/// A port over these bytes, each take of which gives at most `cut` bytes where that is above 0.
+/// A port over these bytes, each take of which gives at most `cut` bytes if that is above 0.
 fn port_over(
     alloc: Global,
     input: &[u8],
@@ -96,7 +96,7 @@ fn expect_line<P: Port>(
 
 fn expect_reading(
     rt: &(impl Abort + AllocGlobal),
-    reading: &Reading,
+    reading: &ReadingCase,
     cut: u32,
 ) -> Result<(), AllocError> {
     let mut port = port_over(rt.alloc(), reading.input, cut, reading.failing_take)?;
@@ -173,7 +173,8 @@ fn a_failed_put_leaves_a_part(rt: HostRuntime) -> Result<(), Fail> {
     Ok(())
 }
 
-/// A plan of which every single situation has a schedule, though none can be found without foresight.
+/// A plan of which every single situation has a schedule, though none can be found without
+/// foresight.
 const PLAN: &[u8] = b"stnu 1
 point A
 point C
@@ -184,7 +185,7 @@ link A 3 8 C
 end
 ";
 
-/// A port of room for seven bytes that has given nothing yet, and to which nothing was put.
+/// A port with capacity for seven bytes that has given nothing yet, and to which nothing was put.
 fn expect_pieces(rt: &impl Abort, port: &mut SteadyPort) {
     let mut place = [0; 8];
     assert_eq!(rt; (port.room(), port.whole()), (7, true));
@@ -215,7 +216,8 @@ fn a_piece_that_does_not_fit_is_accepted_and_not_kept(rt: HostRuntime) -> Result
     Ok(())
 }
 
-// The input of a console. It gives three bytes of a read at most, and its read with this number is an error.
+// The input of a console. It gives three bytes of a read at most, and its read with this number is
+// an error.
 #[derive(Drop)]
 struct Keys {
     bytes: &'static [u8],
@@ -244,8 +246,8 @@ impl BufRead for Keys {
     }
 }
 
-// A runtime with such an input. Its output keeps the bytes that it is given, three of a write at most, until it is full, and
-// its write with this number is an error.
+// A runtime with such an input. Its output keeps the bytes that it is given, three of a write at
+// most, until it is full, and its write with this number is an error.
 #[derive(Drop)]
 struct Console {
     input: &'static [u8],
@@ -318,11 +320,12 @@ impl Input for Console {
     }
 }
 
-// A console by its errors, what is read from it, what writing twelve bytes and then twelve more says, and how many bytes it has.
+// A console by its errors, what is read from it, what writing twelve bytes and then twelve more
+// says, and how many bytes it has.
 struct Exchange {
     failing_read: u32,
     failing_write: u32,
-    answers: &'static [Answer],
+    answers: &'static [PortAnswer],
     written: [Written; 3],
     kept: &'static [u8],
 }
@@ -371,7 +374,7 @@ fn expect_exchange(rt: &(impl Abort + AllocGlobal), exchange: &Exchange) -> Resu
 }
 
 #[test]
-fn errors_of_a_console_are_told(rt: HostRuntime) -> Result<(), Fail> {
+fn errors_of_a_console_are_reported(rt: HostRuntime) -> Result<(), Fail> {
     for exchange in EXCHANGES {
         expect_exchange(&rt, exchange)?;
     }

@@ -197,7 +197,8 @@ stnu check --delay 1 --delay 1 => stnu 1|end| => error words| => 2
 stnu show --delay 0 => stnu 1|end| => error words| => 2
 stnu forge 7 2 --delay 0 =>  => error words| => 2";
 
-/// Rows: how many bytes a take gives at most, where that is above 0, which take and which put fails; and then as above.
+/// Rows: how many bytes a take gives at most, if that is above 0, which take and which put fails;
+/// and then as above.
 const FAILING_CALLS: &str = "0 2 0 => stnu judge => stnu 1|point A| => error read| => 5
 1 4 0 => stnu judge => stnu 1|end|certificate 1|refutation|end| => error read| => 5
 1 9 0 => stnu judge => point A|end| => error format 1 no-header| => 3
@@ -218,9 +219,10 @@ const FAILING_CALLS: &str = "0 2 0 => stnu judge => stnu 1|point A| => error rea
 0 0 3 => stnu run => stnu 1|point A|point C|point D|bound b1 D C 4|link A 3 8 C|end|at 0|at 2 C| => controllable|due 0|act 0 A|due 4| => 6
 0 0 4 => stnu run => stnu 1|point A|point C|point D|bound b1 D C 4|link A 3 8 C|end|at 0|at 2 C| => controllable|due 0|act 0 A|due 4|error event 9 too-soon C 3| => 7";
 
-/// Rows: the room of a port of fixed room, how much of it is left after the run, whether all bytes put are kept; and then as above.
-/// The room is ample, just enough, or too little: the status is the same.
-const ROOMS: &str =
+/// Rows: the capacity of a port of fixed capacity, how much of it is left after the run, whether
+/// all bytes put are kept; and then as above. The capacity is ample, just enough, or too little:
+/// the status is the same.
+const CAPACITIES: &str =
     "1000 974 true => stnu judge => stnu 1|point A|point B|bound b1 A B 3|bound b2 B A -5|end|certificate 1|refutation|bound b1 A B 3|bound b2 B A -5|no 1 2 A A -2|walk 3|end| => accepted not controllable| => 0
 26 0 true => stnu judge => stnu 1|point A|point B|bound b1 A B 3|bound b2 B A -5|end|certificate 1|refutation|bound b1 A B 3|bound b2 B A -5|no 1 2 A A -2|walk 3|end| => accepted not controllable| => 0
 25 25 false => stnu judge => stnu 1|point A|point B|bound b1 A B 3|bound b2 B A -5|end|certificate 1|refutation|bound b1 A B 3|bound b2 B A -5|no 1 2 A A -2|walk 3|end| =>  => 0
@@ -230,7 +232,8 @@ const ROOMS: &str =
 1000 932 true => stnu run => stnu 1|point A|point C|point D|bound b1 D C 4|link A 3 8 C|end|at 0|at 4|at 8 C|done| => controllable|due 0|act 0 A|due 4|act 4 D|due none|due none|complete| => 0
 19 0 false => stnu run => stnu 1|point A|point C|point D|bound b1 D C 4|link A 3 8 C|end|at 0|at 3 C|done| => controllable|due 0| => 0";
 
-/// How a port gives its bytes: so many of a take at most, where that is above 0, and which take and which put fails.
+/// How a port gives its bytes: so many of a take at most, if that is above 0, and which take and
+/// which put fails.
 #[derive(Clone, Copy)]
 pub(crate) struct Calls {
     pub(crate) cut: u32,
@@ -238,9 +241,9 @@ pub(crate) struct Calls {
     pub(crate) failing_put: u32,
 }
 
-/// The room of a port when it is made and after the run, and whether it keeps all bytes put.
+/// The capacity of a port when it is made and after the run, and whether it keeps all bytes put.
 #[derive(Clone, Copy)]
-struct Room {
+struct PortCapacity {
     given: u32,
     left: u32,
     whole: bool,
@@ -248,18 +251,18 @@ struct Room {
 
 /// A row: the words, the input, what is put, and the exit status.
 #[derive(Clone, Copy)]
-pub(crate) struct Row<'a> {
+pub(crate) struct RunRow<'a> {
     pub(crate) words: &'a str,
     pub(crate) input: &'a str,
     pub(crate) put: &'a str,
     pub(crate) status: u8,
 }
 
-pub(crate) fn row_of(text: &str) -> Option<Row<'_>> {
+pub(crate) fn row_of(text: &str) -> Option<RunRow<'_>> {
     let (words, others) = text.split_once(" => ")?;
     let (input, others) = others.split_once(" => ")?;
     let (put, status) = others.split_once(" => ")?;
-    Some(Row {
+    Some(RunRow {
         words,
         input,
         put,
@@ -277,10 +280,10 @@ fn calls_of(text: &str) -> Option<Calls> {
     })
 }
 
-fn room_of(text: &str) -> Option<Room> {
+fn capacity_of(text: &str) -> Option<PortCapacity> {
     let (given, others) = text.split_once(' ')?;
     let (left, whole) = others.split_once(' ')?;
-    Some(Room {
+    Some(PortCapacity {
         given: given.parse().ok()?,
         left: left.parse().ok()?,
         whole: whole == "true",
@@ -314,7 +317,7 @@ fn port_over(alloc: Global, input: &str, calls: Calls) -> Result<MemoryPort, All
 fn expect_status<R: Abort + Threads + Sync, P: Port>(
     rt: &R,
     alloc: Global,
-    row: Row<'_>,
+    row: RunRow<'_>,
     port: &mut P,
 ) -> Result<(), AllocError> {
     let words = words_of(alloc, row.words)?;
@@ -327,7 +330,7 @@ fn expect_status<R: Abort + Threads + Sync, P: Port>(
 fn expect_put<R: Abort>(
     rt: &R,
     alloc: Global,
-    row: Row<'_>,
+    row: RunRow<'_>,
     written: &[u8],
 ) -> Result<(), AllocError> {
     let put = with_line_ends(alloc, row.put)?;
@@ -338,19 +341,19 @@ fn expect_put<R: Abort>(
 fn expect_run<R: Abort + Threads + Sync>(
     rt: &R,
     alloc: Global,
-    row: Row<'_>,
+    row: RunRow<'_>,
     port: &mut MemoryPort,
 ) -> Result<(), AllocError> {
     expect_status(rt, alloc, row, port)?;
     expect_put(rt, alloc, row, port.written())
 }
 
-/// The same over a port of fixed room, of which this much is then left.
+/// The same over a port of fixed capacity, of which this much is then left.
 fn expect_steady_run<R: Abort + Threads + Sync>(
     rt: &R,
     alloc: Global,
-    row: Row<'_>,
-    room: Room,
+    row: RunRow<'_>,
+    room: PortCapacity,
     port: &mut SteadyPort,
 ) -> Result<(), AllocError> {
     assert_eq!(rt; port.room(), room.given);
@@ -363,7 +366,7 @@ fn expect_steady_run<R: Abort + Threads + Sync>(
 pub(crate) fn try_calls<R: Abort + Threads + Sync>(
     rt: &R,
     alloc: Global,
-    row: Row<'_>,
+    row: RunRow<'_>,
     calls: Calls,
 ) -> Result<(), AllocError> {
     let mut port = port_over(alloc, row.input, calls)?;
@@ -384,11 +387,11 @@ pub(crate) fn try_row<R: Abort + Threads + Sync>(
     }
 }
 
-fn try_room<R: Abort + Threads + Sync>(
+fn try_capacity<R: Abort + Threads + Sync>(
     rt: &R,
     alloc: Global,
     text: &str,
-    room: Option<Room>,
+    room: Option<PortCapacity>,
 ) -> Result<(), AllocError> {
     if let (Some(row), Some(room)) = (row_of(text), room) {
         let input = with_line_ends(alloc, row.input)?;
@@ -416,7 +419,7 @@ fn runs_are_the_same_however_the_input_is_cut(rt: HostRuntime) -> Result<(), Fai
 }
 
 #[test]
-fn failed_calls_are_told(rt: HostRuntime) -> Result<(), Fail> {
+fn failed_calls_are_reported(rt: HostRuntime) -> Result<(), Fail> {
     for text in FAILING_CALLS.split('\n') {
         let (calls, row) = text.split_once(" => ").unwrap_or(("", ""));
         try_row(&rt, rt.alloc(), row, calls_of(calls))?;
@@ -425,10 +428,10 @@ fn failed_calls_are_told(rt: HostRuntime) -> Result<(), Fail> {
 }
 
 #[test]
-fn runs_are_the_same_over_a_fixed_room(rt: HostRuntime) -> Result<(), Fail> {
-    for text in ROOMS.split('\n') {
+fn runs_are_the_same_over_a_fixed_capacity(rt: HostRuntime) -> Result<(), Fail> {
+    for text in CAPACITIES.split('\n') {
         let (room, row) = text.split_once(" => ").unwrap_or(("", ""));
-        try_room(&rt, rt.alloc(), row, room_of(room))?;
+        try_capacity(&rt, rt.alloc(), row, capacity_of(room))?;
     }
     Ok(())
 }

@@ -1,16 +1,18 @@
 //! The command `session` over ports in memory.
 
-use crate::runs::{Calls, Row, row_of, try_calls};
+use crate::runs::{Calls, RunRow, row_of, try_calls};
 use std::alloc::AllocError;
 use std::process::Abort;
 use std::test::Fail;
 use std::thread::Threads;
 
-/// Rows: the words, the input, what is put, and the exit status; `|` stands for a line end. In order: a bound dropped and added again, and
-/// the reason; a bound that was in the way, and what the edit kept; edges that rest on one another; a network that is executed once it is
-/// controllable; the same without edits; the conditions of points; every question where some strategy controls the network, and where none
-/// does; the plan as it stands; the report; every cause of a refused edit, after which the session goes on; lines that tell nothing; inputs
-/// that end; lines after `go`; a plan as a document; and words.
+/// Rows: the words, the input, what is put, and the exit status; `|` stands for a line end. In
+/// order: a bound dropped and added again, and the reason; a bound that was in the way, and what
+/// the edit kept; edges that rest on one another; a network that is executed once it is
+/// controllable; the same without edits; the conditions of points; every question when some
+/// strategy controls the network, and when none does; the plan as it stands; the report; every
+/// cause of a refused edit, after which the session goes on; lines that state nothing; inputs that
+/// end; lines after `go`; a plan as a document; and words.
 const SESSIONS: &str =
     "stnu session => stnu 1|point A|point C|point D|bound b1 D C 1|bound b2 C D -1|link A 3 8 C|end|verdict|drop bound b2|verdict|add bound b2 C D -1|proof|drop bound zz|end| => ready|not controllable|ok|controllable|ok|certificate 1|refutation|bound b1 D C 1|bound b2 C D -1|link C C A -8|up 1 3 D A C -7|low C 2 A D 2|up 5 4 A A C -5|drop 6 A A -3|walk 7|end|refused unknown-name| => 0
 stnu session => stnu 1|point A|point B|bound b1 A B 5|bound b2 A B 3|bound b3 B A -4|end|proof|drop bound b2|verdict|report|end| => ready|certificate 1|refutation|bound b2 A B 3|bound b3 B A -4|no 1 2 A A -1|walk 3|end|ok|controllable|report 2 2 2| => 0
@@ -56,7 +58,8 @@ const WORKERS: [&str; 4] = [
     "stnu session --workers=64",
 ];
 
-/// Rows: how many bytes a take gives at most, where that is above 0, which take and which put fails; and then as above.
+/// Rows: how many bytes a take gives at most, if that is above 0, which take and which put fails;
+/// and then as above.
 const FAILING: [(Calls, &str); 3] = [
     (
         Calls {
@@ -84,7 +87,7 @@ const FAILING: [(Calls, &str); 3] = [
     ),
 ];
 
-/// No call fails, and a take gives so many bytes at most, where that is above 0.
+/// No call fails, and a take gives so many bytes at most, if that is above 0.
 fn cut_at(cut: u32) -> Calls {
     Calls {
         cut,
@@ -113,7 +116,7 @@ fn try_with_words<R: Abort + AllocGlobal + Threads + Sync>(
     words: &str,
 ) -> Result<(), AllocError> {
     if let Some(row) = row_of(SESSIONS.split('\n').nth(place).unwrap_or("")) {
-        try_calls(rt, rt.alloc(), Row { words, ..row }, cut_at(0))
+        try_calls(rt, rt.alloc(), RunRow { words, ..row }, cut_at(0))
     } else {
         assert!(rt; false, "{words}");
         Ok(())
@@ -141,7 +144,7 @@ fn workers_change_no_answer(rt: HostRuntime) -> Result<(), Fail> {
 }
 
 #[test]
-fn sessions_tell_failed_calls(rt: HostRuntime) -> Result<(), Fail> {
+fn sessions_report_failed_calls(rt: HostRuntime) -> Result<(), Fail> {
     for (calls, text) in FAILING {
         try_text(&rt, text, calls)?;
     }

@@ -1,5 +1,6 @@
-//! What stands after a growth of memory is refused: a broken session that keeps its network, and is whole again after `reopen`. Nothing is
-//! refused while the gate runs; `tools/fail-each-growth` refuses one growth after the other from outside.
+//! What stands after a growth of memory is refused: a broken session that keeps its network, and is
+//! whole again after `reopen`. Nothing is refused while the gate runs; `tools/probe failed-growths`
+//! refuses one growth after the other from outside.
 
 use example_plans::{edit, network};
 use net_model::{Edit, Network};
@@ -10,7 +11,8 @@ use std::process::Abort;
 use std::test::Fail;
 use std::thread::Threads;
 
-/// A plan in which a loop runs over a link that no single situation shows; without the second bound it can be kept.
+/// A plan in which a loop runs over a link that no single situation shows; without the second bound
+/// it can be kept.
 const PLAN: &str = "point A|point C|point D|bound b1 D C 1|bound b2 C D -1|link A 3 8 C";
 
 const EDIT: &str = "drop bound b2";
@@ -22,7 +24,7 @@ fn refused_growths_break_sessions(rt: HostRuntime) -> Result<(), Fail> {
     try_refusals(&rt, rt.alloc(), net, &edit)
 }
 
-/// Reopens a session and edits it, each once more where there is no memory, and sees how it stands.
+/// Reopens a session and edits it, each once more if memory was refused, and checks its state.
 fn try_refusals<R: Abort + Threads + Sync>(
     rt: &R,
     alloc: Global,

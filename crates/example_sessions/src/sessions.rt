@@ -1,4 +1,5 @@
-//! Lines of sessions: each edit with what it keeps and withdraws and the rounds that follow, and each question.
+//! Lines of sessions: each edit with what it keeps and withdraws and the rounds that follow, and
+//! each question.
 
 ghost use Rattle.std.specs.Prelude.{◌≡◌, ◌<◌, length};
 
@@ -14,10 +15,11 @@ use std::process::Abort;
 use std::test::Fail;
 use std::thread::Threads;
 
-/// A plan, the lines of a session, and the answers. First a loop that no single situation shows, dropped and added again; a bound whose key
-/// falls back to an older one; entries that follow from each other and go together with what both rest on; a wait that follows its link; a
-/// bound that is tightened until it breaks; two bounds of which one is dropped and added again; and the first plan, whose session is
-/// reopened as it was opened and as it was edited.
+/// A plan, the lines of a session, and the answers. First a loop that no single situation shows,
+/// dropped and added again; a bound whose key returns to an older one; entries that follow from
+/// each other and are withdrawn together with what both rest on; a wait that follows its link; a
+/// bound that is tightened until it breaks; two bounds of which one is dropped and added again; and
+/// the first plan, whose session is reopened as it was opened and as it was edited.
 const SESSIONS: [(&str, &str, &str); 7] = [
     (
         "point A|point C|point D|bound b1 D C 1|bound b2 C D -1|link A 3 8 C",
@@ -56,8 +58,9 @@ const SESSIONS: [(&str, &str, &str); 7] = [
     ),
 ];
 
-/// The same of plans with a delay: a link that makes its point contingent, and so the bound beside it another; a loop that only the delay
-/// makes; a link that is set, and the session reopened; and a link that is dropped, by which that from its point gains the delay.
+/// The same of plans with a delay: a link that makes its point contingent, and so the bound beside
+/// it another; a loop that only the delay makes; a link that is set, and the session reopened; and
+/// a link that is dropped, by which that from its point gains the delay.
 const DELAYED: [(Weight, &str, &str, &str); 4] = [
     (
         1,

@@ -1,4 +1,5 @@
-//! The workers with which a session was opened: they make the rows after an edit too, and when it is reopened.
+//! The workers with which a session was opened: they make the rows after an edit too, and when it
+//! is reopened.
 
 use example_plans::{edit, network};
 use net_model::{Edit, Network};
@@ -17,17 +18,17 @@ const EDIT: &str = "set bound late 8";
 /// How often a gate looks, at most, whether a second row has begun.
 const TURNS: u64 = 500_000_000;
 
-/// Holds the first row until a second has begun, and counts those that were let go before.
+/// Blocks the first row until a second has begun, and counts those that were released before.
 #[derive(Drop)]
 struct Pair {
-    begun: AtomicU64,
+    started_count: AtomicU64,
     alone: AtomicU64,
 }
 
 impl Pair {
     fn new() -> Pair {
         Pair {
-            begun: AtomicU64::new(0),
+            started_count: AtomicU64::new(0),
             alone: AtomicU64::new(0),
         }
     }
@@ -35,7 +36,7 @@ impl Pair {
     /// Looks until two rows have begun, for so many turns at most, and says whether they have.
     fn both_begin(&self) -> bool {
         for _ in 0..TURNS {
-            if self.begun.load(Ordering::SeqCst) >= 2 {
+            if self.started_count.load(Ordering::SeqCst) >= 2 {
                 return true;
             }
         }
@@ -44,13 +45,13 @@ impl Pair {
 
     /// Whether two rows have begun at once.
     fn was_met(&self) -> bool {
-        self.begun.load(Ordering::SeqCst) >= 2 && self.alone.load(Ordering::SeqCst) == 0
+        self.started_count.load(Ordering::SeqCst) >= 2 && self.alone.load(Ordering::SeqCst) == 0
     }
 }
 
 impl Gate for Pair {
     fn before(&self, _target: u32) {
-        self.begun.fetch_add(1, Ordering::SeqCst);
+        self.started_count.fetch_add(1, Ordering::SeqCst);
         if !self.both_begin() {
             self.alone.fetch_add(1, Ordering::SeqCst);
         }

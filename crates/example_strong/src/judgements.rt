@@ -1,4 +1,4 @@
-//! Strong certificates, and what is said of them.
+//! Strong certificates, and how they are judged.
 
 use crate::plans::{network, with_line_ends};
 use cert_format::{StrongCert, read_strong};
@@ -8,11 +8,12 @@ use std::process::Abort;
 use std::test::Fail;
 use strong_plan::judge_strong;
 
-/// A plan of one link with a bound each way, of two links in a row beside it, and of a ring of two links.
+/// A plan of one link with a bound each way, of two links in a row beside it, and of a ring of two
+/// links.
 const PLAN: &str =
     "point A|point C|point D|point E|point F|point R|point S|bound e1 C D 0|bound e2 D C 0|bound f D F 5|bound r R D 1|bound s D D 0|link A 3 8 C|link C 2 4 E|link E 1 1 F|link R 1 2 S|link S 1 2 R";
 
-/// The lines of a certificate, and what is said of it.
+/// The lines of a certificate, and how it is judged.
 const ROWS: &str = "by e1 A D 3|by e2 D A -8 => accepted not strongly controllable
 by e2 D A -8|by e1 A D 3 => accepted not strongly controllable
 by e1 A D 4|by e2 D A -8 => accepted not strongly controllable

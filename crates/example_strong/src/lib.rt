@@ -1,4 +1,5 @@
-//! Strong schedules, certificates that there is none, and their judgement, and plans that the longest durations exclude: examples, tried as tests.
+//! Strong schedules, certificates that there is none, and their judgement, and plans that the
+//! longest durations exclude: examples, tried as tests.
 #![tactic(auto)]
 
 #[cfg(test)]

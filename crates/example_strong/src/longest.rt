@@ -1,13 +1,14 @@
 //! Plans, and whether the situation in which every link takes its longest duration excludes them.
 
 use crate::plans::network;
-use longest_durations::is_excluded_at_longest;
+use longest_case::is_excluded_at_longest;
 use std::alloc::Global;
 use std::process::Abort;
 use std::test::Fail;
 
-/// The lines of a plan without a delay, and whether it is excluded. The bounds `late` cannot be kept where the link takes its shortest
-/// duration, which its longest does not show. The two last have links one after another.
+/// The lines of a plan without a delay, and whether it is excluded. The bounds `late` cannot be
+/// satisfied if the link takes its shortest duration, which its longest does not show. The two last
+/// have links one after another.
 const ROWS: &str = "point A|point B|bound b1 A B 5|bound b2 B A -2 => no
 point A|point B|bound b1 A B 3|bound b2 B A -5 => yes
 point A|bound a A A -1 => yes

@@ -1,3 +1,5 @@
+//! Networks from the lines of plans, and texts with line ends, for the tests of this crate.
+
 ghost use Rattle.std.specs.Prelude.{IfOk};
 ghost use Rattle.net_model.specs.Network.{HasPlanNumbers};
 
@@ -6,8 +8,8 @@ use plan_format::PlanReader;
 use std::alloc::{AllocError, Global};
 use std::test::Fail;
 
-/// The network of the lines of a plan, without its first and its last, with `|` between them. It fails where a line is no line of a plan,
-/// where a part is refused, and for want of memory.
+/// The network of the lines of a plan, without its first and its last, with `|` between them. It
+/// fails if a line is no line of a plan, if a part is refused, and if memory is refused.
 pub fn network(alloc: Global, lines: &str) -> Result<Network, Fail>
     ensures { IfOk result HasPlanNumbers }
 {

@@ -1,7 +1,7 @@
 //! Plans, each with its least strong schedule, or with the certificate that it has none.
 
 ghost use Rattle.std.specs.Prelude.{◌≡◌};
-ghost use Rattle.strong_plan.specs.Answers.{IsAnswer, IsRefutation};
+ghost use Rattle.strong_plan.specs.Answers.{IsStrongAnswer, IsStrongRefutation};
 
 use crate::plans::{network, with_line_ends};
 use cert_format::{StrongCert, print_strong};
@@ -9,11 +9,12 @@ use net_model::Network;
 use std::alloc::{AllocError, Global};
 use std::process::Abort;
 use std::test::Fail;
-use strong_plan::laws::plan_numbers_are_shown;
+use strong_plan::laws::law_plan_numbers_are_shown;
 use strong_plan::{Strong, StrongJudgement, judge_strong, strong};
 
-/// The lines of a plan and its answer: the moments of the executable points, or the certificate; `|` stands for a line end. In the two
-/// plans with four points the links share the first of them, which has no part in how far their ends are apart.
+/// The lines of a plan and its answer: the moments of the executable points, or the certificate;
+/// `|` stands for a line end. In the two plans with four points the links share the first of them,
+/// which has no part in how far their ends are apart.
 const ROWS: &str = "point A|point B|bound b1 A B 5|bound b2 B A -2 => 0 2
 point A|point C|point D|bound b1 D C 4|link A 3 8 C => 0 4
 point A|point C|point D|bound e1 C D 0|bound e2 D C 0|link A 3 8 C => strong 1|by e1 A D 3|by e2 D A -8|end|
@@ -36,7 +37,7 @@ fn printed<R: Abort>(
     net: &Network,
     answer: &Strong,
 ) -> Result<Vec<u8>, AllocError>
-    requires { IsAnswer net.now answer.now }
+    requires { IsStrongAnswer net.now answer.now }
 {
     match answer {
         Strong::Times(times) => moments(alloc, times.as_slice()),
@@ -61,7 +62,7 @@ fn certificate<R: Abort>(
     net: &Network,
     cert: &StrongCert,
 ) -> Result<Vec<u8>, AllocError>
-    requires { IsRefutation net.now cert.now }
+    requires { IsStrongRefutation net.now cert.now }
 {
     let accepted = judge_strong(net, cert) == StrongJudgement::Accepted;
     assert!(rt; accepted, "the certificate");
@@ -70,7 +71,7 @@ fn certificate<R: Abort>(
 
 fn try_plan<R: Abort>(rt: &R, alloc: Global, lines: &str) -> Result<Vec<u8>, Fail> {
     let net = network(alloc, lines)?;
-    plan_numbers_are_shown();
+    law_plan_numbers_are_shown();
     let answer = strong(alloc, &net)?;
     Ok(printed(rt, alloc, &net, &answer)?)
 }

@@ -2,15 +2,15 @@
 
 ghost use Rattle.net_model.specs.Network.{HasPlanNumbers};
 
-use crate::edits::{edit_of, told_network};
+use crate::edits::{edit_of, network_text};
 use crate::rows::{cells, network};
 use net_model::{BoundId, LinkId, MOST_DELAY, Network, Weight, bound_edge};
 use std::alloc::{AllocError, Global};
 use std::process::Abort;
 use std::test::Fail;
 
-/// A delay and a plan, and the points, bounds and links of its shown form, or that the network cannot have this delay. C ends
-/// a link from A, and D one from C; A and B are executable.
+/// A delay and a plan, and the points, bounds and links of its shown form, or that the network
+/// cannot have this delay. C ends a link from A, and D one from C; A and B are executable.
 const SHOWN: &str = "\
 0 stnu 1|point A|point C|bound b A C 7|link A 2 5 C|end => A C; b 0 1 7; 0 2 5 1
 3 stnu 1|end => ; 
@@ -40,7 +40,7 @@ add link B 1 2 A => A B C; b 0 2 7, d 1 0 1; 0 2 5 2, 1 4 5 0
 set link C 4 4 => A B C; b 0 2 10, d 1 0 -2; 0 7 7 2
 drop link C => A B C; b 0 2 7, d 1 0 -2; ";
 
-/// The network with a delay, where it may have this one.
+/// The network with a delay, if it may have this one.
 fn delayed(net: Network, delay: Weight) -> Option<Network>
     requires { HasPlanNumbers net }
 {
@@ -67,18 +67,18 @@ fn read_as_shown(rt: &impl Abort, net: &Network, shown: &Network) {
 }
 
 /// The points, bounds and links of the shown form.
-fn told_form(rt: &impl Abort, alloc: Global, net: &Network) -> Result<String, AllocError> {
+fn form_text(rt: &impl Abort, alloc: Global, net: &Network) -> Result<String, AllocError> {
     let shown = net.shown(alloc)?;
     assert_eq!(rt; shown.delay(), 0);
     read_as_shown(rt, net, &shown);
-    told_network(alloc, &shown)
+    network_text(alloc, &shown)
 }
 
-fn told(rt: &impl Abort, alloc: Global, delay: Weight, plan: &str) -> Result<String, Fail> {
+fn result_text(rt: &impl Abort, alloc: Global, delay: Weight, plan: &str) -> Result<String, Fail> {
     match delayed(network(alloc, plan)?, delay) {
         Some(net) => {
             assert_eq!(rt; net.delay(), delay);
-            Ok(told_form(rt, alloc, &net)?)
+            Ok(form_text(rt, alloc, &net)?)
         }
         None => Ok(String::from_str(alloc, "refused")?),
     }
@@ -89,8 +89,8 @@ fn shown_forms(rt: HostRuntime) -> Result<(), Fail> {
     for row in SHOWN.split('\n') {
         let (input, wanted) = cells(row).ok_or("a row")?;
         let (delay, plan) = input.split_once(' ').ok_or("a delay")?;
-        let told = told(&rt, rt.alloc(), delay.parse()?, plan)?;
-        assert_eq!(rt; told.as_str(), wanted, "{input}");
+        let result_text = result_text(&rt, rt.alloc(), delay.parse()?, plan)?;
+        assert_eq!(rt; result_text.as_str(), wanted, "{input}");
     }
     Ok(())
 }
@@ -101,8 +101,8 @@ fn try_edits(rt: &impl Abort, alloc: Global, net: &Network) -> Result<(), Fail> 
         let edit = edit_of(line).ok_or("an edit")?;
         let new = net.apply(alloc, &edit)?;
         assert_eq!(rt; new.delay(), 3, "{line}");
-        let told = told_form(rt, alloc, &new)?;
-        assert_eq!(rt; told.as_str(), wanted, "{line}");
+        let result_text = form_text(rt, alloc, &new)?;
+        assert_eq!(rt; result_text.as_str(), wanted, "{line}");
     }
     Ok(())
 }

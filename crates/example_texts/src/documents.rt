@@ -1,3 +1,5 @@
+//! JSON documents, and the networks that they declare.
+
 ghost use Rattle.std.specs.Prelude.{◌<◌, ◌≤ℤ◌, ◌^◌, pos, length};
 ghost use Rattle.net_model.specs.Limits.{most_delay};
 
@@ -101,8 +103,9 @@ const DOCUMENTS: &str = r#"
 {"stnu":2,"points":["A"],"between":[{"name":"w","from":"A","low":2000000000,"high":0,"to":"9"}]} => bad-name between 1
 {"stnu":2,"points":["A"],"between":[{"name":"w","from":"A","low":-1000000001,"high":0,"to":"A"}]} => limit between 1 number"#;
 
-/// The plan text of the network that a document declares, with `|` for each line end, or why there is none.
-fn told(alloc: Global, document: &[u8]) -> Result<Vec<u8>, AllocError> {
+/// The plan text of the network that a document declares, with `|` for each line end, or why there
+/// is none.
+fn result_text(alloc: Global, document: &[u8]) -> Result<Vec<u8>, AllocError> {
     match from_json(alloc, document) {
         Ok(plan) => built(alloc, &plan),
         Err(fault) => Ok(fault.to_string(alloc)?.into_bytes()),
@@ -138,7 +141,7 @@ fn in_one_line(mut text: Vec<u8>) -> Vec<u8> {
 fn documents(rt: HostRuntime) -> Result<(), Fail> {
     for row in DOCUMENTS.trim_start().split('\n') {
         let (document, answer) = cells(row).ok_or("a row")?;
-        let said = told(rt.alloc(), document.as_bytes())?;
+        let said = result_text(rt.alloc(), document.as_bytes())?;
         assert_eq!(rt; said.as_slice(), answer.as_bytes(), "{document}");
     }
     Ok(())
@@ -164,10 +167,10 @@ fn no_reading(rt: HostRuntime) -> Result<(), Fail> {
         (128, b"not-json".as_slice()),
     ] {
         let text = nested(rt.alloc(), depth)?;
-        let said = told(rt.alloc(), &text)?;
+        let said = result_text(rt.alloc(), &text)?;
         assert_eq!(rt; said.as_slice(), answer, "{depth}");
     }
-    let said = told(rt.alloc(), b"{\"stnu\":1,\"points\":[\"\xff\"]}")?;
+    let said = result_text(rt.alloc(), b"{\"stnu\":1,\"points\":[\"\xff\"]}")?;
     assert_eq!(rt; said.as_slice(), b"not-json".as_slice());
     Ok(())
 }

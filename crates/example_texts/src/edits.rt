@@ -1,3 +1,5 @@
+//! Edits of a network, and what each makes of it.
+
 use crate::rows::{cells, network};
 use edit_script::{Step, read_step};
 use net_model::{Bound, Edit, EditFault, Link, Name, NameFault, Network, User};
@@ -41,7 +43,7 @@ set link C 0 3 => bad-interval
 set link C 5 3 => bad-interval";
 
 /// The names of points, with a blank between two.
-fn told_points(alloc: Global, text: &mut String, points: &[Name]) -> Result<(), AllocError> {
+fn push_points(alloc: Global, text: &mut String, points: &[Name]) -> Result<(), AllocError> {
     let mut gap = "";
     for name in points {
         let one = format!(in alloc; "{gap}{name}")?;
@@ -51,7 +53,7 @@ fn told_points(alloc: Global, text: &mut String, points: &[Name]) -> Result<(), 
     Ok(())
 }
 
-fn told_bounds(alloc: Global, text: &mut String, bounds: &[Bound]) -> Result<(), AllocError> {
+fn push_bounds(alloc: Global, text: &mut String, bounds: &[Bound]) -> Result<(), AllocError> {
     let mut gap = "; ";
     for b in bounds {
         let one = format!(in alloc; "{gap}{} {} {} {}", b.name, b.from.0, b.to.0, b.most)?;
@@ -61,7 +63,7 @@ fn told_bounds(alloc: Global, text: &mut String, bounds: &[Bound]) -> Result<(),
     Ok(())
 }
 
-fn told_links(alloc: Global, text: &mut String, links: &[Link]) -> Result<(), AllocError> {
+fn push_links(alloc: Global, text: &mut String, links: &[Link]) -> Result<(), AllocError> {
     text.push_str("; ")?;
     let mut gap = "";
     for l in links {
@@ -72,22 +74,22 @@ fn told_links(alloc: Global, text: &mut String, links: &[Link]) -> Result<(), Al
     Ok(())
 }
 
-fn tell(alloc: Global, text: &mut String, net: &Network) -> Result<(), AllocError> {
-    told_points(alloc, text, net.points())?;
-    told_bounds(alloc, text, net.bounds())?;
-    told_links(alloc, text, net.links())
+fn put_network(alloc: Global, text: &mut String, net: &Network) -> Result<(), AllocError> {
+    push_points(alloc, text, net.points())?;
+    push_bounds(alloc, text, net.bounds())?;
+    push_links(alloc, text, net.links())
 }
 
 /// The points, bounds and links of a network, each list after `; `.
-pub fn told_network(alloc: Global, net: &Network) -> Result<String, AllocError> {
+pub fn network_text(alloc: Global, net: &Network) -> Result<String, AllocError> {
     let mut text = String::new(alloc);
-    match tell(alloc, &mut text, net) {
+    match put_network(alloc, &mut text, net) {
         Ok(()) => Ok(text),
         Err(error) => Err(error),
     }
 }
 
-fn told_fault(alloc: Global, fault: EditFault) -> Result<String, AllocError> {
+fn fault_text(alloc: Global, fault: EditFault) -> Result<String, AllocError> {
     match fault {
         EditFault::StillUsed(User::Bound(id)) => format!(in alloc; "{fault} bound {}", id.0),
         EditFault::StillUsed(User::Link(id)) => format!(in alloc; "{fault} link {}", id.0),
@@ -99,8 +101,8 @@ fn told_fault(alloc: Global, fault: EditFault) -> Result<String, AllocError> {
 /// What an edit makes of a network, or why it is refused.
 fn answer(alloc: Global, net: &Network, edit: &Edit) -> Result<String, AllocError> {
     match net.apply(alloc, edit) {
-        Ok(new) => told_network(alloc, &new),
-        Err(fault) => told_fault(alloc, fault),
+        Ok(new) => network_text(alloc, &new),
+        Err(fault) => fault_text(alloc, fault),
     }
 }
 
@@ -116,8 +118,8 @@ fn try_edits(rt: &impl Abort, alloc: Global, net: &Network) -> Result<(), Fail> 
     for row in EDITS.split('\n') {
         let (line, wanted) = cells(row).ok_or("a row")?;
         let edit = edit_of(line).ok_or("an edit")?;
-        let told = answer(alloc, net, &edit)?;
-        assert_eq!(rt; told.as_str(), wanted, "{line}");
+        let result_text = answer(alloc, net, &edit)?;
+        assert_eq!(rt; result_text.as_str(), wanted, "{line}");
     }
     Ok(())
 }
@@ -128,7 +130,8 @@ fn edits(rt: HostRuntime) -> Result<(), Fail> {
     try_edits(&rt, rt.alloc(), &net)
 }
 
-/// Edits with a number beyond its limit, which no line tells: of a new bound c and a new link to A, and of b and the link to C.
+/// Edits with a number beyond its limit, which no line states: of a new bound c and a new link to
+/// A, and of b and the link to C.
 fn too_great() -> Result<[Edit; 4], NameFault> {
     let (b, c) = (Name::new(b"b")?, Name::new(b"C")?);
     let a = Name::new(b"A")?;
@@ -142,8 +145,8 @@ fn too_great() -> Result<[Edit; 4], NameFault> {
 
 fn try_numbers(rt: &impl Abort, alloc: Global, net: &Network) -> Result<(), Fail> {
     for edit in too_great()? {
-        let told = answer(alloc, net, &edit)?;
-        assert_eq!(rt; told.as_str(), "limit number", "{edit:?}");
+        let result_text = answer(alloc, net, &edit)?;
+        assert_eq!(rt; result_text.as_str(), "limit number", "{edit:?}");
     }
     Ok(())
 }

@@ -1,3 +1,5 @@
+//! Lines of events, and the completions that a reader keeps of them.
+
 use crate::rows::{cells, network};
 use event_stream::{Event, EventReader, MOST_LINE};
 use net_model::{Network, PointId};
@@ -8,7 +10,8 @@ use std::test::Fail;
 /// The plan of the points A, C and D to which the lines belong.
 const PLAN: &str = "stnu 1|point A|point C|point D|bound b1 D C 4|link A 3 8 C|end";
 
-/// Lines that one reader reads one after another: the event or the first fault, and the completions that are then kept.
+/// Lines that one reader reads one after another: the event or the first fault, and the completions
+/// that are then kept.
 const LINES: &str = "\
 done => done []
  => blank []
@@ -78,8 +81,8 @@ fn try_lines(rt: &impl Abort, alloc: Global, net: &Network) -> Result<(), Fail> 
     let mut reader = EventReader::new(alloc)?;
     for row in LINES.split('\n') {
         let (line, wanted) = cells(row).ok_or("a row")?;
-        let told = answer(alloc, &mut reader, net, line.as_bytes())?;
-        assert_eq!(rt; told.as_str(), wanted, "{line}");
+        let result_text = answer(alloc, &mut reader, net, line.as_bytes())?;
+        assert_eq!(rt; result_text.as_str(), wanted, "{line}");
     }
     Ok(())
 }

@@ -1,5 +1,5 @@
-//! Examples of names, networks and texts: tests alone. A table is one text with a row a line: an input, ` => ` and the
-//! answer. In a plan text `|` stands for a line end.
+//! Examples of names, networks and texts: tests alone. A table is one text with a row a line: an
+//! input, ` => ` and the answer. In a plan text `|` stands for a line end.
 #![tactic(auto)]
 
 #[cfg(test)]

@@ -1,3 +1,5 @@
+//! Names, and texts that are no names.
+
 use crate::rows::cells;
 use net_model::{Name, NameFault};
 use std::alloc::Global;

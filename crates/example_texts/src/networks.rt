@@ -1,3 +1,5 @@
+//! Networks: their points, links and the faults of their parts.
+
 use crate::rows::network;
 use net_model::{BoundId, BuildFault, Items, LinkId, Name, Network, Part, PointId, Which};
 use std::alloc::{AllocError, Global};

@@ -1,3 +1,5 @@
+//! Plan texts: lines that are read alone, texts, and their networks.
+
 ghost use Rattle.std.specs.Prelude.{◌≡◌, ◌⊎◌};
 
 use crate::rows::{cells, feed};
@@ -186,7 +188,7 @@ fn exchange(text: &mut [u8], old: u8, new: u8) {
     }
 }
 
-/// What is told of a plan text that is read line by line.
+/// The answer to a plan text that is read line by line.
 fn answer_by_line(alloc: Global, text: &str) -> Result<Vec<u8>, AllocError> {
     let mut reader = PlanReader::new(alloc);
     match feed(&mut reader, text) {
@@ -199,8 +201,8 @@ fn answer_by_line(alloc: Global, text: &str) -> Result<Vec<u8>, AllocError> {
 fn plans(rt: HostRuntime) -> Result<(), Fail> {
     for row in PLANS.split('\n') {
         let (text, answer) = cells(row).ok_or("a row")?;
-        let told = answer_by_line(rt.alloc(), text)?;
-        assert_eq!(rt; told.as_slice(), answer.as_bytes(), "{text}");
+        let result_text = answer_by_line(rt.alloc(), text)?;
+        assert_eq!(rt; result_text.as_slice(), answer.as_bytes(), "{text}");
     }
     Ok(())
 }
@@ -242,8 +244,8 @@ fn whole_texts(rt: HostRuntime) -> Result<(), Fail> {
     for row in TEXTS.split('\n') {
         let (text, answer) = cells(row).ok_or("a row")?;
         let bytes = with_line_ends(rt.alloc(), text)?;
-        let told = answer_to_whole(rt.alloc(), &bytes)?;
-        assert_eq!(rt; told.as_str(), answer, "{text}");
+        let result_text = answer_to_whole(rt.alloc(), &bytes)?;
+        assert_eq!(rt; result_text.as_str(), answer, "{text}");
     }
     Ok(())
 }
@@ -281,7 +283,7 @@ fn largest_plan(rt: HostRuntime) -> Result<(), Fail> {
 fn look_at(rt: &impl Abort, reader: &PlanReader) {
     assert_eq!(rt;
         reader.section(),
-        PlanSection::Begun(PlanVersion::One, PlanStage::Going)
+        PlanSection::Started(PlanVersion::One, PlanStage::PastDelay)
     );
     assert_eq!(rt; reader.parts().len(), 1);
     assert_eq!(rt; reader.lines(), [3].as_slice());

@@ -1,3 +1,5 @@
+//! The rows of tables, and the networks of plan texts in them.
+
 ghost use Rattle.std.specs.Prelude.{IfOk};
 ghost use Rattle.net_model.specs.Network.{HasPlanNumbers};
 

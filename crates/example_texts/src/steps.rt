@@ -1,3 +1,5 @@
+//! Lines of a session: edits, questions and faults.
+
 use crate::rows::cells;
 use edit_script::{Step, read_step};
 use net_model::Edit;
@@ -5,7 +7,7 @@ use std::alloc::{AllocError, Global};
 use std::process::Abort;
 use std::test::Fail;
 
-/// Lines of a session, and what each tells or its first fault.
+/// Lines of a session, and what each states or its first fault.
 const LINES: &str = "\
 \t\r => blank
   #add point A => blank
@@ -81,7 +83,7 @@ fn shown_edit(alloc: Global, edit: &Edit) -> Result<String, AllocError> {
     }
 }
 
-/// What a line tells, or its fault.
+/// What a line states, or its fault.
 fn shown(alloc: Global, line: &str) -> Result<String, AllocError> {
     match read_step(line.as_bytes()) {
         Ok(Step::Blank) => "blank".to_string(alloc),
@@ -100,8 +102,8 @@ fn shown(alloc: Global, line: &str) -> Result<String, AllocError> {
 fn try_lines(rt: &impl Abort, alloc: Global) -> Result<(), Fail> {
     for row in LINES.split('\n') {
         let (line, wanted) = cells(row).ok_or("a row")?;
-        let told = shown(alloc, line)?;
-        assert_eq!(rt; told.as_str(), wanted, "{line}");
+        let result_text = shown(alloc, line)?;
+        assert_eq!(rt; result_text.as_str(), wanted, "{line}");
     }
     Ok(())
 }

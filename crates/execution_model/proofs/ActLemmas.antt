@@ -12,12 +12,12 @@ use Rattle.strategy_model.proofs.KindLemmas.{kind, ending_known, none_from_test}
 use Rattle.dispatch_net.proofs.ExecutionLemmas.{dispatchable_length}
 use Rattle.net_model.specs.Moments.{Moments}
 use Rattle.execution_model.specs.Execution.{Setting, is_due, acts_at, acted, acts_while}
-use Rattle.execution_model.specs.Feeding.{Execution, next_moment, moments_to, after_feed}
+use Rattle.execution_model.specs.Feeds.{Execution, next_moment, moments_to, after_feed}
 use Rattle.execution_model.specs.Streams.{Listing}
 use Rattle.execution_model.specs.Timely.{with_completed}
 use Rattle.execution_model.specs.Laws.{setting_of}
 use Rattle.execution_model.specs.Acts.{executes_at, scheduled_at, scheduled}
-use Rattle.execution_model.specs.declared.feeding.Act.{Act}
+use Rattle.execution_model.specs.declared.feed_answers.Act.{Act}
 use Rattle.execution_model.proofs.MomentLemmas.{come_not_due}
 use Rattle.execution_model.proofs.CutLemmas.{IsCut, IsSeen, IsRun, is_due_now, not_due_before, never_due}
 use Rattle.execution_model.proofs.TimeLemmas.{NoneComes, none_seen, moment_runs}
@@ -65,7 +65,7 @@ module _ (net : Plan) (table : Graph) (schedule : List ℕ) (run : IsRun net tab
               ∙ sym (at_its_moment point executable false (ne_eqb (moment_in schedule point) t (λ same. omega (arith, same, after))))
         ]
 
-    -- a point is due exactly where the schedule executes it
+    -- a point is due exactly if the schedule executes it
     due_is : (point : PointId) → IsPoint net point → is_due (setting_of net table) moments t point ≡ executes_at net schedule t point
     due_is point within =
         elim (kind net point within) [

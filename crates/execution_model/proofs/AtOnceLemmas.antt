@@ -7,11 +7,11 @@ use Rattle.std.proofs.lemmas.Bool.Decides.{nat_tests}
 use Rattle.net_model.specs.declared.ids.PointId.{PointId}
 use Rattle.net_model.specs.Moments.{Moments, moment_of}
 use Rattle.execution_model.specs.Execution.{Setting, is_due, acts_at, acted}
-use Rattle.execution_model.specs.Feeding.{completed_at}
-use Rattle.execution_model.specs.declared.feeding.Act.{Act}
+use Rattle.execution_model.specs.Feeds.{completed_at}
+use Rattle.execution_model.specs.declared.feed_answers.Act.{Act}
 use Rattle.execution_model.proofs.MomentLemmas.{same_moments, length-acted, moment_acted, no_acts_same, none_due_no_acts, length-completed_at, moment_completed, moment_of_other, come_not_due, past_none}
 use Rattle.execution_model.specs.Paced.{IsRankedNetwork, ArePaced, IsMadeOneByOne, done, next, OneByOneIsAtOnce}
-use Rattle.execution_model.proofs.OneByOneLemmas.{acts_come_one_by_one}
+use Rattle.execution_model.proofs.OneByOneLemmas.{law_acts_come_one_by_one}
 
 -- ---- a list of points whose lowest passes
 numbered : ℕ → PointId
@@ -62,7 +62,7 @@ module _ (setting : Setting) (rank : PointId → ℕ) (ranked : IsRankedNetwork 
     one = completed_at moments t point
 
     others : (other : PointId) → other.0 ≢ point.0 → is_due setting one t other ≡ is_due setting moments t other
-    others = (acts_come_one_by_one setting rank moments ranked paced long t point inside due).0
+    others = (law_acts_come_one_by_one setting rank moments ranked paced long t point inside due).0
 
     now_at : moment_of one point ≡ Some t
     now_at = moment_completed moments t point (omega (arith, inside, long))
@@ -106,8 +106,8 @@ module _ (setting : Setting) (rank : PointId → ℕ) (ranked : IsRankedNetwork 
       let nothing = none_due_no_acts setting moments t none in
       (sym (no_acts_same setting moments t long nothing), sym nothing)
   at_once moments after acts paced long (next same later point rest inside due lowest goes_on) =
-      let (leads, are) = at_once (completed_at moments t point) later rest ((acts_come_one_by_one setting rank moments ranked paced long t point inside due).1) (length-completed_at moments t point ∙ long) goes_on in
+      let (leads, are) = at_once (completed_at moments t point) later rest ((law_acts_come_one_by_one setting rank moments ranked paced long t point inside due).1) (length-completed_at moments t point ∙ long) goes_on in
       (leads ∙ acted_step moments paced long point inside due, (ap (λ (xs : List Act). record { moment = t; point = point } ∷ xs) are) ∙ sym (acts_step moments paced long point inside due lowest))
 
-pub one_by_one_is_at_once : OneByOneIsAtOnce
-one_by_one_is_at_once setting rank moments after t acts ranked paced long made = at_once setting rank ranked t moments after acts paced long made
+pub law_one_by_one_is_at_once : OneByOneIsAtOnce
+law_one_by_one_is_at_once setting rank moments after t acts ranked paced long made = at_once setting rank ranked t moments after acts paced long made

@@ -22,9 +22,9 @@ use Rattle.strategy_model.proofs.CompareLemmas.{duration_of}
 use Rattle.strategy_model.proofs.KindLemmas.{Ending, kind}
 use Rattle.dispatch_net.specs.Dispatchable.{dispatchable, conditions_at}
 use Rattle.dispatch_net.specs.declared.dispatch.Conditions.{Conditions}
-use Rattle.dispatch_net.specs.Execution.{IsExecutedBy, IsFirst, bound_asks, wait_asks, asked_by}
+use Rattle.dispatch_net.specs.Execution.{IsExecutedBy, IsFirstNotBefore, required_by_bound, required_by_wait, required_moments}
 use Rattle.dispatch_net.specs.Laws.{AreExact}
-use Rattle.dispatch_net.proofs.ExactLemmas.{lists_are_exact}
+use Rattle.dispatch_net.proofs.ExactLemmas.{law_lists_are_exact}
 use Rattle.dispatch_net.proofs.ExecutionLemmas.{dispatchable_length, point_count}
 use Rattle.dispatch_net.proofs.SlimLists.{list_passes, passes_each}
 use Rattle.net_model.specs.Moments.{Moments, moment_of}
@@ -147,22 +147,22 @@ module _ (net : Plan) (table : Graph) (schedule : List ℕ) (run : IsRun net tab
       abbrev conditions : Conditions
       conditions = conditions_at (dispatchable net table) point
 
-      abbrev asked : List ℕ
-      asked = asked_by net schedule conditions
+      abbrev required : List ℕ
+      required = required_moments net schedule conditions
 
-      abbrev asked_bounds : List ℕ
-      asked_bounds = map (bound_asks schedule) conditions.lower_bounds
+      abbrev required_by_bounds : List ℕ
+      required_by_bounds = map (required_by_bound schedule) conditions.lower_bounds
 
-      abbrev asked_waits : List ℕ
-      asked_waits = map (wait_asks net schedule) conditions.waits
+      abbrev required_by_waits : List ℕ
+      required_by_waits = map (required_by_wait net schedule) conditions.waits
 
       exact : AreExact table point conditions
-      exact = (lists_are_exact net table point run.for run.sound executable.0).0 executable
+      exact = (law_lists_are_exact net table point run.for run.sound executable.0).0 executable
 
-      is_first : IsFirst asked (moment_in schedule point)
+      is_first : IsFirstNotBefore required (moment_in schedule point)
       is_first = run.executed.executable point executable
 
-      -- a lower bound asks for a moment after its point
+      -- a lower bound requires a moment after its point
       bound_sound : (bound : PointId × ℤ) → Contains conditions.lower_bounds bound → IsPoint net bound.0 × (1 ≤ unsigned_abs bound.1)
       bound_sound bound among =
           let (above, has) = (exact.bounds bound.0 bound.1).0 among in
@@ -178,35 +178,35 @@ module _ (net : Plan) (table : Graph) (schedule : List ℕ) (run : IsRun net tab
           let (link, declared) = waited wait.0 activation labelled in
           (link, declared, some_positive wait.1 above)
 
-      -- what a wait asks for
+      -- what a wait requires
       wait_is : (wait : LinkId × ℤ) (link : Link) → IsLinkOf net wait.0 link
-          → wait_asks net schedule wait ≡ min (moment_in schedule link.to) (moment_in schedule link.from + unsigned_abs wait.1)
+          → required_by_wait net schedule wait ≡ min (moment_in schedule link.to) (moment_in schedule link.from + unsigned_abs wait.1)
       wait_is wait link declared =
           ap (λ (o : Option Link). option_map_or (λ (l : Link). min (moment_in schedule l.to) (moment_in schedule l.from + unsigned_abs wait.1)) o 0) declared
 
       wait_met_is : (wait : LinkId × ℤ) (link : Link) → IsLinkOf net wait.0 link → meets_wait setting moments t wait ≡ meets_wait_for moments t wait.1 link
       wait_met_is wait link declared = ap (λ (o : Option Link). option_map_or (meets_wait_for moments t wait.1) o false) declared
 
-      asked_by_then : moment_in schedule point ≤ t → (m : ℕ) → Contains asked m → m ≤ t
-      asked_by_then by_then m among =
-          let met : m ≤ moment_in schedule point = All-contains (λ n. n ≤ moment_in schedule point) asked m is_first.meets among in
+      required_by_then : moment_in schedule point ≤ t → (m : ℕ) → Contains required m → m ≤ t
+      required_by_then by_then m among =
+          let met : m ≤ moment_in schedule point = All-contains (λ n. n ≤ moment_in schedule point) required m is_first.meets among in
           omega (arith, met, by_then)
 
-      -- from its moment on, what is asked is met
+      -- from its moment on, what is required is met
       bound_met : moment_in schedule point ≤ t → (bound : PointId × ℤ) → Contains conditions.lower_bounds bound → meets_bound moments t bound ≡ true
       bound_met by_then bound among =
           let (within, positive) = bound_sound bound among in
-          let asks : moment_in schedule bound.0 + unsigned_abs bound.1 ≤ t = asked_by_then by_then (bound_asks schedule bound)
-          (Contains-append_left asked_bounds asked_waits (bound_asks schedule bound) (Contains-map (bound_asks schedule) conditions.lower_bounds bound among)) in
+          let asks : moment_in schedule bound.0 + unsigned_abs bound.1 ≤ t = required_by_then by_then (required_by_bound schedule bound)
+          (Contains-append_left required_by_bounds required_by_waits (required_by_bound schedule bound) (Contains-map (required_by_bound schedule) conditions.lower_bounds bound among)) in
           gone_by moments t bound.0 bound.1 (moment_in schedule bound.0) (seen.known bound.0 within (omega (arith, asks, positive))) asks
 
       wait_met : moment_in schedule point ≤ t → (wait : LinkId × ℤ) → Contains conditions.waits wait → meets_wait setting moments t wait ≡ true
       wait_met by_then wait among = by (wait_sound wait among)
         where
-          asks : wait_asks net schedule wait ≤ t
+          asks : required_by_wait net schedule wait ≤ t
           asks =
-              asked_by_then by_then (wait_asks net schedule wait)
-              (Contains-append_right asked_bounds asked_waits (wait_asks net schedule wait) (Contains-map (wait_asks net schedule) conditions.waits wait among))
+              required_by_then by_then (required_by_wait net schedule wait)
+              (Contains-append_right required_by_bounds required_by_waits (required_by_wait net schedule wait) (Contains-map (required_by_wait net schedule) conditions.waits wait among))
 
           by : (link : Link) × IsLinkOf net wait.0 link × (1 ≤ unsigned_abs wait.1) → meets_wait setting moments t wait ≡ true
           by (link, declared, positive) =
@@ -216,14 +216,14 @@ module _ (net : Plan) (table : Graph) (schedule : List ℕ) (run : IsRun net tab
               let low = its.low in
               let one = its.positive in
               let sooner : moment_in schedule link.from < t = omega (arith, is, asks, lasting, low, one, positive) in
-              let begun = seen.known link.from (link_sound net run.plan wait.0.0 link declared).from_point sooner in
+              let is_activated = seen.known link.from (link_sound net run.plan wait.0.0 link declared).from_point sooner in
               let ending : Ending net link.to = record { name = wait.0; link = link; declared = declared; ends = refl } in
               wait_met_is wait link declared
-              ∙ and_from (has_come moments link.from) (has_come moments link.to || has_gone_by moments t link.from wait.1) (ap is_some begun)
+              ∙ and_from (has_come moments link.from) (has_come moments link.to || has_gone_by moments t link.from wait.1) (ap is_some is_activated)
               (elim (cases_lt t (moment_in schedule link.to)) [
                 | inl later ↦
                     or_right (has_come moments link.to) (has_gone_by moments t link.from wait.1)
-                    (gone_by moments t link.from wait.1 (moment_in schedule link.from) begun (omega (arith, is, asks, later)))
+                    (gone_by moments t link.from wait.1 (moment_in schedule link.from) is_activated (omega (arith, is, asks, later)))
                 | inr by_now ↦ or_left (has_come moments link.to) (has_gone_by moments t link.from wait.1) (ap is_some (seen_completed link.to ending by_now))
               ])
 
@@ -233,28 +233,28 @@ module _ (net : Plan) (table : Graph) (schedule : List ℕ) (run : IsRun net tab
           (list_passes (meets_bound moments t) conditions.lower_bounds (bound_met by_then))
           (list_passes (meets_wait setting moments t) conditions.waits (wait_met by_then))
 
-      -- and where it is met, the moment has come
-      asked_met : meets setting moments t conditions ≡ true → (m : ℕ) → Contains asked m → m ≤ t
-      asked_met met m among =
+      -- and if it is met, the moment has come
+      required_met : meets setting moments t conditions ≡ true → (m : ℕ) → Contains required m → m ≤ t
+      required_met met m among =
           let (bounds_met, waits_met) = and_parts (list_all (meets_bound moments t) conditions.lower_bounds) (list_all (meets_wait setting moments t) conditions.waits) met in
-          elim (Contains-append_cases asked_bounds asked_waits m among) [
+          elim (Contains-append_cases required_by_bounds required_by_waits m among) [
             | inl one ↦ by_bound bounds_met one
             | inr two ↦ by_wait waits_met two
           ]
         where
-          by_bound : list_all (meets_bound moments t) conditions.lower_bounds ≡ true → Contains asked_bounds m → m ≤ t
+          by_bound : list_all (meets_bound moments t) conditions.lower_bounds ≡ true → Contains required_by_bounds m → m ≤ t
           by_bound bounds_met one =
               let bounds = conditions.lower_bounds in
-              let (bound, listed, is) = Contains-map_from (bound_asks schedule) bounds m one in
+              let (bound, listed, is) = Contains-map_from (required_by_bound schedule) bounds m one in
               let (k, found, within) = from_gone_by moments t bound.0 bound.1 (passes_each (meets_bound moments t) bounds bound bounds_met listed) in
               let same = (seen_value bound.0 k (bound_sound bound listed).0 found).0 in
               omega (arith, is, within, same)
 
-          by_link : (wait : LinkId × ℤ) (link : Link) → IsLinkOf net wait.0 link → meets_wait_for moments t wait.1 link ≡ true → wait_asks net schedule wait ≤ t
+          by_link : (wait : LinkId × ℤ) (link : Link) → IsLinkOf net wait.0 link → meets_wait_for moments t wait.1 link ≡ true → required_by_wait net schedule wait ≤ t
           by_link wait link declared holds =
               let is = wait_is wait link declared in
               let link_is = link_sound net run.plan wait.0.0 link declared in
-              let (begun, over) = and_parts (has_come moments link.from) (has_come moments link.to || has_gone_by moments t link.from wait.1) holds in
+              let (is_activated, over) = and_parts (has_come moments link.from) (has_come moments link.to || has_gone_by moments t link.from wait.1) holds in
               elim (or_cases (has_come moments link.to) (has_gone_by moments t link.from wait.1) over) [
                 | inl come ↦
                     (let (k, found) = came moments link.to come in
@@ -268,10 +268,10 @@ module _ (net : Plan) (table : Graph) (schedule : List ℕ) (run : IsRun net tab
                     omega (arith, is, same, within))
               ]
 
-          by_wait : list_all (meets_wait setting moments t) conditions.waits ≡ true → Contains asked_waits m → m ≤ t
+          by_wait : list_all (meets_wait setting moments t) conditions.waits ≡ true → Contains required_by_waits m → m ≤ t
           by_wait waits_met two =
               let waits = conditions.waits in
-              let (wait, listed, is) = Contains-map_from (wait_asks net schedule) waits m two in
+              let (wait, listed, is) = Contains-map_from (required_by_wait net schedule) waits m two in
               let (link, declared, positive) = wait_sound wait listed in
               let holds : meets_wait_for moments t wait.1 link ≡ true = sym (wait_met_is wait link declared) ∙ passes_each (meets_wait setting moments t) waits wait waits_met listed in
               let asks = by_link wait link declared holds in
@@ -279,7 +279,7 @@ module _ (net : Plan) (table : Graph) (schedule : List ℕ) (run : IsRun net tab
 
       come_where_met : meets setting moments t conditions ≡ true → moment_in schedule point ≤ t
       come_where_met met =
-          is_first.first t (All-weaker (Contains asked) (λ m. m ≤ t) (asked_met met) asked (All-contains_itself asked))
+          is_first.first t (All-weaker (Contains required) (λ m. m ≤ t) (required_met met) required (All-contains_itself required))
 
       -- so the point is due exactly at its moment
       pub is_due_now : moment_in schedule point ≡ t → is_due setting moments t point ≡ true

@@ -16,17 +16,17 @@ use Rattle.dispatch_net.proofs.ExecutionLemmas.{dispatchable_length}
 use Rattle.net_model.specs.Moments.{Moments, moment_of}
 use Rattle.execution_model.specs.Execution.{Setting, time_runs, acts_while}
 use Rattle.net_model.specs.Limits.{most_moment}
-use Rattle.execution_model.specs.Feeding.{Execution, started, next_moment, taken, after_feed, first_open, IsWhole, IsFed, IsFinished}
+use Rattle.execution_model.specs.Feeds.{Execution, started, next_moment, taken, after_feed, first_open, IsWhole, IsFed, IsFinished}
 use Rattle.execution_model.specs.Streams.{Listing, Stream, Shows, IsFaithful, last_moment, cut_at, fixed_by}
 use Rattle.execution_model.specs.Timely.{fed_all}
 use Rattle.execution_model.specs.Laws.{setting_of, IsDispatchedByClosure, IsExecutionOf, AreWithinLimit, going_on, ended}
 use Rattle.execution_model.specs.Acts.{scheduled, ActsAreEarliest, LastActsAreEarliest}
 use Rattle.execution_model.specs.Earliest.{NoneSooner, IsFedEarliest, IsEndedEarliest, FeedsAreEarliest, FinishesAreEarliest}
-use Rattle.execution_model.specs.declared.feeding.Why.{Why}
-use Rattle.execution_model.specs.declared.feeding.Fed.{Fed}
-use Rattle.execution_model.specs.declared.feeding.Fed.TheVariants as fed
-use Rattle.execution_model.specs.declared.feeding.Finished.{Finished}
-use Rattle.execution_model.specs.declared.feeding.Finished.TheVariants as finished
+use Rattle.execution_model.specs.declared.feed_answers.Why.{Why}
+use Rattle.execution_model.specs.declared.feed_answers.Fed.{Fed}
+use Rattle.execution_model.specs.declared.feed_answers.Fed.TheVariants as fed
+use Rattle.execution_model.specs.declared.feed_answers.Finished.{Finished}
+use Rattle.execution_model.specs.declared.feed_answers.Finished.TheVariants as finished
 use Rattle.execution_model.proofs.MomentLemmas.{within_from_some}
 use Rattle.execution_model.proofs.TimelyLemmas.{taken_in_time}
 use Rattle.execution_model.proofs.FedLemmas.{after_listing, after_all, fed_on, started_of, taken_within, same_ok, err_ok, fed_in_time}
@@ -34,7 +34,7 @@ use Rattle.execution_model.proofs.CutLemmas.{IsCut, IsRun}
 use Rattle.execution_model.proofs.FittingLemmas.{IsNext, AreNext, end_of, KeepsTo}
 use Rattle.execution_model.proofs.StreamLemmas.{shows_next, next_shows}
 use Rattle.execution_model.proofs.ActLemmas.{acts_while_are, fed_acts}
-use Rattle.execution_model.proofs.LawLemmas.{run_of, fed_keeps, fed_end, done_keeps, none_comes, end_cut, fed_faithful, feeds_execute_earliest, ends_are_earliest, faithful_streams_are_taken, done_where_none_is_open}
+use Rattle.execution_model.proofs.LawLemmas.{run_of, fed_keeps, fed_end, done_keeps, none_comes, end_cut, fed_faithful, law_feeds_execute_earliest, law_ends_are_earliest, law_faithful_streams_are_taken, law_done_where_none_is_open}
 
 -- ---- lists of feeds
 -- feeds in two parts
@@ -158,8 +158,8 @@ module _ (net : Plan) (table : Graph) (order : List PointId) (by : IsDispatchedB
       let law = taken_in_time net execution listing.moment listing.points is_of (taken_within execution listing.moment listing.points moments took) in
       ap (λ (m : Moments). (after_feed execution listing.moment m).acts) (law.1 moments took) ∙ fed_acts net table schedule run execution listing keeps is_next
 
-pub acts_are_earliest : ActsAreEarliest
-acts_are_earliest net table order listings listing execution moments situation schedule by fed took earliest shows =
+pub law_acts_are_earliest : ActsAreEarliest
+law_acts_are_earliest net table order listings listing execution moments situation schedule by fed took earliest shows =
     acts_of_feed net table order by listings listing execution fed situation schedule earliest shows moments took
 
 -- ---- the acts of the end
@@ -195,8 +195,8 @@ module _ (net : Plan) (table : Graph) (order : List PointId) (by : IsDispatchedB
             absurd (false≢true (sym (ap is_some unknown) ∙ whole.come k None (omega (arith, inside, size, long)))))
       ]
 
-pub last_acts_are_earliest : LastActsAreEarliest
-last_acts_are_earliest net table order listings execution after situation schedule by fed whole earliest shows =
+pub law_last_acts_are_earliest : LastActsAreEarliest
+law_last_acts_are_earliest net table order listings execution after situation schedule by fed whole earliest shows =
     acts_of_end net table order by listings execution after fed whole situation schedule earliest shows
 
 -- ---- a feed
@@ -231,7 +231,7 @@ module _ (old : Execution) (moment : ℕ) (listed : List PointId) (answer : Fed)
           keeps = λ answered situation schedule earliest shows.
               let are : after.moments ≡ fixed_by stream schedule =
               ap (λ (e : Execution). e.moments) comes
-              ∙ feeds_execute_earliest net table order (listings ++ listing ∷ []) (after_feed old moment moments) situation schedule by fed_on_to earliest shows in
+              ∙ law_feeds_execute_earliest net table order (listings ++ listing ∷ []) (after_feed old moment moments) situation schedule by fed_on_to earliest shows in
               record {
                 moments = are;
                 acts = ap (λ (e : Execution). e.acts) comes ∙ acts_of_feed net table order by listings listing old went situation schedule earliest shows moments took;
@@ -246,14 +246,14 @@ module _ (old : Execution) (moment : ℕ) (listed : List PointId) (answer : Fed)
         not_faithful : IsFaithful net stream → ⊥
         not_faithful faithful =
             let all = within_append listings listing (all_within listings (started (setting_of net table)) old went) within in
-            let (end, fed_to) = (faithful_streams_are_taken net table order (listings ++ listing ∷ []) by all).0.0 faithful in
+            let (end, fed_to) = (law_faithful_streams_are_taken net table order (listings ++ listing ∷ []) by all).0.0 faithful in
             err_ok end cause (sym (went_on (Err cause) took) ∙ fed_to)
 
     fed_is_earliest : IsFedEarliest net stream old moment answer after
     fed_is_earliest = by_answer (taken old moment listed) refl (subst FedWhere (none_refused net table order listings old by went) is)
 
-pub feeds_are_earliest : FeedsAreEarliest
-feeds_are_earliest old moment listed answer after is net table order listings by went within =
+pub law_feeds_are_earliest : FeedsAreEarliest
+law_feeds_are_earliest old moment listed answer after is net table order listings by went within =
     fed_is_earliest old moment listed answer after is net table order listings by went within
 
 -- ---- the end
@@ -275,14 +275,14 @@ module _ (old : Execution) (answer : Finished) (after : Execution) where
     by_open (Some point) found (unfinished, same) = record {
       answered = (
         λ complete. absurd (complete_not_unfinished point (sym complete ∙ unfinished)),
-        λ faithful. absurd (none-some point (sym ((done_where_none_is_open net table order listings old by went).0 faithful) ∙ found)),
+        λ faithful. absurd (none-some point (sym ((law_done_where_none_is_open net table order listings old by went).0 faithful) ∙ found)),
       );
       keeps = λ complete. absurd (complete_not_unfinished point (sym complete ∙ unfinished));
     }
     by_open None none (complete, whole) = record {
-      answered = (λ answered. (done_where_none_is_open net table order listings old by went).1 none, λ faithful. complete);
+      answered = (λ answered. (law_done_where_none_is_open net table order listings old by went).1 none, λ faithful. complete);
       keeps = λ answered situation schedule earliest shows.
-          let are = ends_are_earliest net table order listings old after situation schedule by went whole earliest shows in (
+          let are = law_ends_are_earliest net table order listings old after situation schedule by went whole earliest shows in (
             whole.count,
             none_later net table order by listings old after went whole situation schedule earliest shows,
             record {
@@ -296,5 +296,5 @@ module _ (old : Execution) (answer : Finished) (after : Execution) where
     ended_is_earliest : IsEndedEarliest net (ended listings) old answer after
     ended_is_earliest = by_open (first_open old) refl (subst EndedWhere (none_refused net table order listings old by went) is)
 
-pub finishes_are_earliest : FinishesAreEarliest
-finishes_are_earliest old answer after is net table order listings by went = ended_is_earliest old answer after is net table order listings by went
+pub law_finishes_are_earliest : FinishesAreEarliest
+law_finishes_are_earliest old answer after is net table order listings by went = ended_is_earliest old answer after is net table order listings by went

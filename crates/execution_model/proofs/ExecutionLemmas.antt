@@ -14,9 +14,9 @@ use Rattle.strategy_model.specs.Situations.{moment_in}
 use Rattle.strategy_model.specs.Dispatch.{AgreeUpTo, SameCompletions}
 use Rattle.strategy_model.proofs.AgreeLemmas.{played_length}
 use Rattle.strategy_model.proofs.InstantLemmas.{as_instant}
-use Rattle.strategy_model.proofs.AloneLemmas.{earliest_see_alone}
+use Rattle.strategy_model.proofs.AloneLemmas.{law_earliest_see_alone}
 use Rattle.strategy_model.proofs.KindLemmas.{kind}
-use Rattle.execution_model.specs.Streams.{Listing, Stream, HasGoneBy, Fits, last_moment, cut_at, fixed_by}
+use Rattle.execution_model.specs.Streams.{Listing, Stream, HasGoneBy, FitsSituation, last_moment, cut_at, fixed_by}
 use Rattle.execution_model.specs.Laws.{ExecutionsAreOne}
 use Rattle.execution_model.proofs.PlaceLemmas.{ending_contingent}
 use Rattle.execution_model.proofs.StreamLemmas.{cut_later}
@@ -35,11 +35,11 @@ last_stands (first ∷ others) before l is =
 abbrev shown_up_to : Option ℕ → ℕ → Option ℕ
 shown_up_to last m = if option_map_or (nat_le m) last false then Some m else None
 
--- what a stream that is done or goes on fixes
+-- what a stream fixes, whether it is done or continues
 abbrev fixed_where : (done : Bool) → Option ℕ → List ℕ → List (Option ℕ)
 fixed_where done last schedule = if done then map Some schedule else cut_at last schedule
 
-module _ (net : Plan) (instant : IsInstant net) (stream : Stream) (one other : List ℕ) (first : Fits net stream one) (second : Fits net stream other) where
+module _ (net : Plan) (instant : IsInstant net) (stream : Stream) (one other : List ℕ) (first : FitsSituation net stream one) (second : FitsSituation net stream other) where
   -- while all that comes is listed, the completions are the same
   same_completions : (t : ℕ) → ((m : ℕ) → m ≤ t → HasGoneBy stream m) → SameCompletions net t first.schedule second.schedule
   same_completions t gone name link declared =
@@ -57,7 +57,7 @@ module _ (net : Plan) (instant : IsInstant net) (stream : Stream) (one other : L
       → AgreeUpTo t (moment_in first.schedule point) (moment_in second.schedule point)
   agree t gone point within =
       elim (kind net point within) [
-        | inl executable ↦ earliest_see_alone net one other first.schedule second.schedule t instant first.earliest second.earliest (same_completions t gone) point executable
+        | inl executable ↦ law_earliest_see_alone net one other first.schedule second.schedule t instant first.earliest second.earliest (same_completions t gone) point executable
         | inr ending ↦ subst (λ (p : PointId). AgreeUpTo t (moment_in first.schedule p) (moment_in second.schedule p)) ending.ends (same_completions t gone ending.name ending.link ending.declared)
       ]
 
@@ -127,6 +127,6 @@ module _ (net : Plan) (instant : IsInstant net) (stream : Stream) (one other : L
       by false goes_on =
           ap (λ (b : Bool). fixed_where b last first.schedule) goes_on ∙ same_up_to last refl ∙ sym (ap (λ (b : Bool). fixed_where b last second.schedule) goes_on)
 
-pub executions_are_one : ExecutionsAreOne
-executions_are_one net stream one other instant first second =
+pub law_executions_are_one : ExecutionsAreOne
+law_executions_are_one net stream one other instant first second =
     first.fixed ∙ same_fixed net instant stream first.situation second.situation first.fits second.fits ∙ sym second.fixed

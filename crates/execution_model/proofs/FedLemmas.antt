@@ -1,5 +1,4 @@
--- Executions of a network from its start on, and lists of feeds: where they are all taken each is in time, and the other way round where
--- none is beyond the limit.
+-- Executions of a network from its start on, and lists of feeds: if they are all taken each is in time, and the other way round if none is beyond the limit.
 use Rattle.std.proofs.Common.{◌≡◌, ℕ, ◌+◌, ◌≤◌, Bool, true, false, List, [], ◌∷◌, Option, Some, None, Result, Ok, Err, refl, ap, sym, ◌∙◌, arith}
 use Rattle.std.specs.Prelude.{nat_lt, if◌then◌else◌}
 use Rattle.std.specs.Option.{option_map, option_map_or}
@@ -15,12 +14,12 @@ use Rattle.dispatch_net.proofs.ExecutionLemmas.{dispatchable_length}
 use Rattle.net_model.specs.Moments.{Moments}
 use Rattle.execution_model.specs.Execution.{Setting, points_of}
 use Rattle.net_model.specs.Limits.{most_moment}
-use Rattle.execution_model.specs.Feeding.{Execution, started, next_moment, refusal_of_moment, completed_in, taken, after_feed}
+use Rattle.execution_model.specs.Feeds.{Execution, started, next_moment, refusal_of_moment, completed_in, taken, after_feed}
 use Rattle.execution_model.specs.Streams.{Listing}
 use Rattle.execution_model.specs.Timely.{with_completed, AreInTime, fed_all}
 use Rattle.execution_model.specs.Laws.{setting_of, AreWithinLimit, IsExecutionOf}
-use Rattle.execution_model.specs.declared.feeding.Why.{Why}
-use Rattle.execution_model.specs.declared.feeding.Why.TheVariants as why
+use Rattle.execution_model.specs.declared.feed_answers.Why.{Why}
+use Rattle.execution_model.specs.declared.feed_answers.Why.TheVariants as why
 use Rattle.execution_model.proofs.MomentLemmas.{length-points, length-acted}
 use Rattle.execution_model.proofs.TimelyLemmas.{taken_in_time}
 

@@ -14,7 +14,7 @@ use Rattle.strategy_model.proofs.PlayLemmas.{link_sound}
 use Rattle.strategy_model.proofs.KindLemmas.{Ending, not_ending}
 use Rattle.net_model.specs.Moments.{moment_of}
 use Rattle.execution_model.specs.Execution.{Setting, link_to, acted, time_runs}
-use Rattle.execution_model.specs.Feeding.{Execution, next_moment, moments_to, moments_before}
+use Rattle.execution_model.specs.Feeds.{Execution, next_moment, moments_to, moments_before}
 use Rattle.execution_model.specs.Streams.{Listing}
 use Rattle.execution_model.specs.Timely.{CompletesInTime, IsInTime, with_completed, AreInTime}
 use Rattle.execution_model.specs.Laws.{setting_of}
@@ -115,9 +115,9 @@ module _ (net : Plan) (table : Graph) (schedule : List ℕ) (run : IsRun net tab
             let high = its.high in
             let contingent = ending_contingent net point ending in
             let not_yet : listing.moment ≤ moment_in schedule point = not_sooner net schedule (moments_before execution listing.moment) listing.moment before point within unknown in
-            let begun : moment_in schedule link.from ≡ activated =
+            let is_activated : moment_in schedule link.from ≡ activated =
             sym (cut_value net schedule (moments_before execution listing.moment) listing.moment before link.from activated sound.from_point active).0 in
-            is.listed point contingent (let later = is.later in omega (arith, later, not_yet)) (omega (arith, reached, begun, lasting, high, at))
+            is.listed point contingent (let later = is.later in omega (arith, later, not_yet)) (omega (arith, reached, is_activated, lasting, high, at))
 
     in_time : IsInTime execution listing.moment listing.points
     in_time = record {

@@ -19,7 +19,7 @@ use Rattle.closure_model.specs.Derivable.{IsDerivable, IsDerivableFor, IsLeastDe
 use Rattle.closure_model.specs.Keys.{Shape, IsKey, IsLabelAt, key_of, shape_of}
 use Rattle.closure_model.specs.Tables.{Graph, HasEdge, IsGraph}
 use Rattle.closure_model.proofs.BaseLemmas.{all_contained}
-use Rattle.closure_model.proofs.LawProofs.{derivable_are_edges, derivable_are_bounded}
+use Rattle.closure_model.proofs.LawProofs.{law_derivable_are_edges, law_derivable_are_bounded}
 use Rattle.closure_model.proofs.Lists.{Contains-map_from}
 use Rattle.execution_model.specs.Laws.{ClosuresAreGraphs}
 
@@ -42,7 +42,7 @@ module _ (net : Plan) (table : Graph) (plan : IsPlan net) (closure : IsClosure n
 
   within : (edge : Edge) → HasEdge table edge → unsigned_abs edge.weight ≤ most_weight
   within edge has =
-      let bounded = derivable_are_bounded net edge plan (derivable edge has) in
+      let bounded = law_derivable_are_bounded net edge plan (derivable edge has) in
       let small = greatest-le net plan in
       omega (arith, bounded, small)
 
@@ -58,12 +58,12 @@ module _ (net : Plan) (table : Graph) (plan : IsPlan net) (closure : IsClosure n
   is_graph =
       let fits = sym closure.for_network in
       record {
-        keys = λ edge has. subst (λ (s : Shape). IsKey s (key_of edge)) fits (key_is edge (derivable_are_edges net edge plan (derivable edge has)));
+        keys = λ edge has. subst (λ (s : Shape). IsKey s (key_of edge)) fits (key_is edge (law_derivable_are_edges net edge plan (derivable edge has)));
         weights = within;
         begins = subst (λ (s : Shape). All (λ (p : PointId). p.0 < s.points) s.activations) fits (all_contained (λ (p : PointId). p.0 < shape.points) shape.activations begins_in);
         few_points = subst (λ (s : Shape). s.points ≤ most_points) fits plan.few_points;
         few_links = subst (λ (s : Shape). length s.activations ≤ most_links) fits few;
       }
 
-pub closures_are_graphs : ClosuresAreGraphs
-closures_are_graphs net table plan closure = is_graph net table plan closure
+pub law_closures_are_graphs : ClosuresAreGraphs
+law_closures_are_graphs net table plan closure = is_graph net table plan closure

@@ -9,21 +9,21 @@ use Rattle.net_model.specs.Network.{Plan, IsPoint, IsContingent}
 use Rattle.net_model.specs.declared.ids.PointId.{PointId}
 use Rattle.net_model.specs.declared.part.Link.{Link}
 use Rattle.closure_model.specs.Tables.{Graph, IsClosed}
-use Rattle.closure_model.proofs.LawProofs.{closure_is_closed}
+use Rattle.closure_model.proofs.LawProofs.{law_closure_is_closed}
 use Rattle.closure_model.proofs.Lists.{Contains-head, Contains-tail}
 use Rattle.closure_model.proofs.OrderLemmas.{find_none}
 use Rattle.strategy_model.specs.Situations.{IsSituation, moment_in}
 use Rattle.strategy_model.specs.Control.{IsEarliest}
 use Rattle.strategy_model.proofs.KindLemmas.{Ending}
-use Rattle.dispatch_net.proofs.ExecutionLemmas.{dispatchable_length, executions_satisfy}
-use Rattle.dispatch_net.proofs.EarliestLemmas.{closures_execute_earliest}
+use Rattle.dispatch_net.proofs.ExecutionLemmas.{dispatchable_length, law_executions_satisfy}
+use Rattle.dispatch_net.proofs.EarliestLemmas.{law_closures_execute_earliest}
 use Rattle.net_model.specs.Moments.{Moments}
 use Rattle.execution_model.specs.Execution.{Setting, has_come, points_of, link_to, time_runs}
-use Rattle.execution_model.specs.Feeding.{Execution, started, next_moment, is_open, first_open}
+use Rattle.execution_model.specs.Feeds.{Execution, started, next_moment, is_open, first_open}
 use Rattle.execution_model.specs.Streams.{Listing, IsListed, Shows, IsFaithful, last_moment}
 use Rattle.execution_model.specs.Timely.{AreInTime, fed_all}
 use Rattle.execution_model.specs.Laws.{setting_of, IsDispatchedByClosure, IsExecutionOf, going_on, ended, FaithfulStreamsAreTaken, FeedsExecuteEarliest, DoneWhereNoneIsOpen, EndsAreEarliest, StreamsAreExecuted}
-use Rattle.execution_model.proofs.GraphLemmas.{closures_are_graphs}
+use Rattle.execution_model.proofs.GraphLemmas.{law_closures_are_graphs}
 use Rattle.execution_model.proofs.MomentLemmas.{Contains-point}
 use Rattle.execution_model.proofs.PlaceLemmas.{link_found, ending_of, ending_point, contingent_ending, ending_contingent}
 use Rattle.execution_model.proofs.CutLemmas.{IsCut, IsRun, came, cut_value}
@@ -34,7 +34,7 @@ use Rattle.execution_model.proofs.FedLemmas.{after_all, started_of, fed_in_time,
 use Rattle.execution_model.proofs.SituationLemmas.{EachLasted, all_lasted, duration_seen, situation_seen, seen_is_situation, seen_duration}
 use Rattle.execution_model.proofs.SeenLemmas.{IsShownBy, in_time_next}
 
--- where no element passes, none is found
+-- if no element passes, none is found
 none_found : {X : Type 0} (test : X → Bool) (xs : List X) → ((x : X) → Contains xs x → test x ≡ false) → find test xs ≡ None
 none_found test [] none = refl
 none_found test (x ∷ xs) none =
@@ -46,10 +46,10 @@ module _ (net : Plan) (table : Graph) (order : List PointId) (by : IsDispatchedB
   run_of situation schedule earliest = record {
     plan = by.instant.sound;
     for = by.closure.for_network;
-    sound = closures_are_graphs net table by.instant.sound by.closure;
+    sound = law_closures_are_graphs net table by.instant.sound by.closure;
     situation = situation;
     is_situation = earliest.is_situation;
-    executed = (closures_execute_earliest net table order situation schedule by.instant by.closure (closures_are_graphs net table by.instant.sound by.closure) by.ordered earliest.is_situation).0 earliest;
+    executed = (law_closures_execute_earliest net table order situation schedule by.instant by.closure (law_closures_are_graphs net table by.instant.sound by.closure) by.ordered earliest.is_situation).0 earliest;
   }
 
   module _ (listings : List Listing) (execution : Execution) (fed : fed_all (started (setting_of net table)) listings ≡ Ok execution) (schedule : List ℕ)
@@ -68,7 +68,7 @@ module _ (net : Plan) (table : Graph) (order : List PointId) (by : IsDispatchedB
     pub fed_end : next_moment execution ≡ end_of 0 listings
     fed_end = ap next_moment (sym leads) ∙ end_after (started (setting_of net table)) listings
 
-  -- where the stream is said to be done, no contingent point comes after it, however long time runs
+  -- if the stream is said to be done, no contingent point comes after it, however long time runs
   module _ (listings : List Listing) (execution : Execution) (fed : fed_all (started (setting_of net table)) listings ≡ Ok execution) (schedule : List ℕ)
       (run : IsRun net table schedule) (shows : Shows net (ended listings) schedule) (count : ℕ) where
     shows_on : Shows net (going_on listings) schedule
@@ -88,15 +88,15 @@ module _ (net : Plan) (table : Graph) (order : List PointId) (by : IsDispatchedB
         subst (λ (setting : Setting). IsCut net schedule (time_runs setting execution.moments (next_moment execution) count) (next_moment execution + count)) (sym done_keeps.setting)
         (time_cut net table schedule run count execution.moments (next_moment execution) done_keeps.cut none_comes)
 
-pub feeds_execute_earliest : FeedsExecuteEarliest
-feeds_execute_earliest net table order listings execution situation schedule by fed earliest shows =
+pub law_feeds_execute_earliest : FeedsExecuteEarliest
+law_feeds_execute_earliest net table order listings execution situation schedule by fed earliest shows =
     let run = run_of net table order by situation schedule earliest in
     let keeps = fed_keeps net table order by listings execution fed schedule run shows in
     cut_is net schedule execution.moments (last_moment (going_on listings)) run.executed.complete
     (subst (λ (last : Option ℕ). IsCut net schedule execution.moments (option_map_or (λ l. l + 1) last 0)) (fed_last net table order by listings execution fed schedule run shows) keeps.cut)
 
-pub ends_are_earliest : EndsAreEarliest
-ends_are_earliest net table order listings execution after situation schedule by fed whole earliest shows =
+pub law_ends_are_earliest : EndsAreEarliest
+law_ends_are_earliest net table order listings execution after situation schedule by fed whole earliest shows =
     let run = run_of net table order by situation schedule earliest in
     let cut = end_cut net table order by listings execution fed schedule run shows whole.count in
     ap (λ (e : Execution). e.moments) whole.after_it
@@ -122,12 +122,12 @@ module _ (net : Plan) (table : Graph) (order : List PointId) (by : IsDispatchedB
 
     pub in_time_fits : IsFaithful net (going_on listings)
     in_time_fits =
-        let closed : IsClosed net table = (closure_is_closed net table by.closure).0 in
+        let closed : IsClosed net table = (law_closure_is_closed net table by.closure).0 in
         let situation = situation_seen net final in
         let (schedule, executed) =
-        (executions_satisfy net table order by.instant by.closure.for_network (closures_are_graphs net table by.instant.sound by.closure) closed by.ordered).executed situation is_situation in
+        (law_executions_satisfy net table order by.instant by.closure.for_network (law_closures_are_graphs net table by.instant.sound by.closure) closed by.ordered).executed situation is_situation in
         let run : IsRun net table schedule =
-        record { plan = by.instant.sound; for = by.closure.for_network; sound = closures_are_graphs net table by.instant.sound by.closure; situation = situation; is_situation = is_situation; executed = executed } in
+        record { plan = by.instant.sound; for = by.closure.for_network; sound = law_closures_are_graphs net table by.instant.sound by.closure; situation = situation; is_situation = is_situation; executed = executed } in
         let shown : IsShownBy net table schedule final = record {
           run = run;
           each = each_lasted;
@@ -137,7 +137,7 @@ module _ (net : Plan) (table : Graph) (order : List PointId) (by : IsDispatchedB
           situation,
           record {
             schedule = schedule;
-            earliest = (closures_execute_earliest net table order situation schedule by.instant by.closure (closures_are_graphs net table by.instant.sound by.closure) by.ordered is_situation).1 executed;
+            earliest = (law_closures_execute_earliest net table order situation schedule by.instant by.closure (law_closures_are_graphs net table by.instant.sound by.closure) by.ordered is_situation).1 executed;
             shows = next_shows net schedule listings next;
           },
         )
@@ -153,8 +153,8 @@ module _ (net : Plan) (table : Graph) (order : List PointId) (by : IsDispatchedB
   fed_faithful execution fed =
       in_time_fits (fed_in_time net listings (started (setting_of net table)) execution (started_of net table by.instant by.closure.for_network) fed).0
 
-pub faithful_streams_are_taken : FaithfulStreamsAreTaken
-faithful_streams_are_taken net table order listings by within = (
+pub law_faithful_streams_are_taken : FaithfulStreamsAreTaken
+law_faithful_streams_are_taken net table order listings by within = (
   (
     λ faithful. (
       after_all (started (setting_of net table)) listings,
@@ -250,14 +250,14 @@ module _ (net : Plan) (table : Graph) (order : List PointId) (by : IsDispatchedB
                   let end = fed_end net table order by listings execution fed fits.schedule run fits.shows in
                   listed_before_end net fits.schedule 0 listings (shows_next net fits.schedule listings fits.shows) point contingent (omega arith) (omega (arith, same, before, end))
 
-pub done_where_none_is_open : DoneWhereNoneIsOpen
-done_where_none_is_open net table order listings execution by fed = (done_none_open net table order by listings execution fed, none_open_done net table order by listings execution fed)
+pub law_done_where_none_is_open : DoneWhereNoneIsOpen
+law_done_where_none_is_open net table order listings execution by fed = (done_none_open net table order by listings execution fed, none_open_done net table order by listings execution fed)
 
-pub streams_are_executed : StreamsAreExecuted
-streams_are_executed net table order listings execution by fed = (
+pub law_streams_are_executed : StreamsAreExecuted
+law_streams_are_executed net table order listings execution by fed = (
   (let (situation, fits) = fed_faithful net table order by listings execution fed in
-      record { situation = situation; fits = fits; fixed = feeds_execute_earliest net table order listings execution situation fits.schedule by fed fits.earliest fits.shows }),
+      record { situation = situation; fits = fits; fixed = law_feeds_execute_earliest net table order listings execution situation fits.schedule by fed fits.earliest fits.shows }),
   λ none after whole.
       let (situation, fits) = none_open_done net table order by listings execution fed none in
-      record { situation = situation; fits = fits; fixed = ends_are_earliest net table order listings execution after situation fits.schedule by fed whole fits.earliest fits.shows },
+      record { situation = situation; fits = fits; fixed = law_ends_are_earliest net table order listings execution after situation fits.schedule by fed whole fits.earliest fits.shows },
 )

@@ -62,7 +62,7 @@ module _ (net : Plan) (setting : Setting) (links : setting.links ≡ net.links) 
       by (inl none) = absurd (true≢false (sym contingent ∙ ap is_some none))
       by (inr ending) = (ending.link, link_of_is_link_to plan ending.name ending.link point ending.declared ending.ends)
 
-  -- and where a link is found, the point is contingent
+  -- and if a link is found, the point is contingent
   pub link_is_contingent : IsPlan net → (point : PointId) (link : Link) → link_to setting point ≡ Some link → IsContingent net point
   link_is_contingent plan point link ends =
       let (name, declared, same) = link_to_is_link point link ends in
@@ -78,7 +78,7 @@ module _ (net : Plan) (setting : Setting) (links : setting.links ≡ net.links) 
           let (name, declared, same) = link_to_is_link point link some in
           absurd (not_ending net point executable (record { name = name; link = link; declared = declared; ends = same }))
 
-  -- and where none is found, a point of the network is executable
+  -- and if none is found, a point of the network is executable
   pub none_is_executable : IsPlan net → (point : PointId) → IsPoint net point → link_to setting point ≡ None → IsExecutable net point
   none_is_executable plan point within none = by (kind_of_any net point)
     where

@@ -4,7 +4,7 @@ use Rattle.std.specs.Prelude.{◌&&◌, ◌||◌, ◌==◌, fold, IsSome, if◌t
 use Rattle.std.specs.List.{All, Contains, range_with_len}
 use Rattle.std.proofs.lemmas.Bool.{cases_lt, eqb-true, true≢false}
 use Rattle.std.proofs.lemmas.Bool.Decides.{nat_tests}
-use Rattle.closure_model.specs.Orders.{is_among}
+use Rattle.closure_model.specs.Orders.{contains_point}
 use Rattle.std.proofs.lemmas.List.{get_or-map, length-map, get_or_past, get_or-set_same, get_or-set_other, length-set, same_lists, get_or_default}
 use Rattle.std.proofs.lemmas.List.FromFn.{get_or-map-range_with_len, length-map-range_with_len}
 use Rattle.std.proofs.lemmas.Option.{none-some, same_Some}
@@ -14,8 +14,8 @@ use Rattle.closure_model.proofs.KeyLists.{Contains-points}
 use Rattle.closure_model.proofs.Lists.{Contains-none, Contains-cases}
 use Rattle.net_model.specs.Moments.{Moments, moment_of}
 use Rattle.execution_model.specs.Execution.{Setting, points_of, link_to, meets, is_due, acts_at, acted, time_runs}
-use Rattle.execution_model.specs.Feeding.{completed_at}
-use Rattle.execution_model.specs.declared.feeding.Act.{Act}
+use Rattle.execution_model.specs.Feeds.{completed_at}
+use Rattle.execution_model.specs.declared.feed_answers.Act.{Act}
 use Rattle.dispatch_net.specs.Dispatchable.{conditions_at}
 
 -- ---- a filter that keeps nothing
@@ -151,7 +151,7 @@ module _ (setting : Setting) (moments : Moments) (t : ℕ) where
       by inside true due = let same : Some m ≡ Some t = sym come ∙ moment_due point inside due in inr (same_Some m t same, due)
       by inside false not_due = inl (sym (moment_not_due point inside not_due) ∙ come)
 
-  -- where there are no acts, nothing is due, and the moments stay
+  -- if there are no acts, nothing is due, and the moments stay
   pub no_acts_none_due : acts_at setting moments t ≡ [] → (point : PointId) → point.0 < length setting.dispatch → is_due setting moments t point ≡ false
   no_acts_none_due none point inside = kept_none (is_due setting moments t) (λ p. record { moment = t; point = p }) (points_of setting) none point (Contains-point setting point inside)
 
@@ -219,7 +219,7 @@ module _ (moments : Moments) (moment : ℕ) (point : PointId) where
   pub moment_of_other : (other : PointId) → other.0 ≢ point.0 → moment_of (completed_at moments moment point) other ≡ moment_of moments other
   moment_of_other other apart = get_or-set_other moments point.0 other.0 (Some moment) None apart
 
-  -- the moment of another point stays, where the point had none
+  -- the moment of another point stays, if the point had none
   pub completed_keeps : moment_of moments point ≡ None → (other : PointId) (m : ℕ) → moment_of moments other ≡ Some m → moment_of (completed_at moments moment point) other ≡ Some m
   completed_keeps new other m come = moment_of_other other apart ∙ come
     where
@@ -236,32 +236,32 @@ module _ (moment : ℕ) where
   length-completed_all moments (point ∷ others) = length-completed_all (completed_at moments moment point) others ∙ length-completed_at moments moment point
 
   -- a point that is not listed keeps its moment
-  pub moment_not_listed : (moments : Moments) (listed : List PointId) (point : PointId) → is_among listed point ≡ false
+  pub moment_not_listed : (moments : Moments) (listed : List PointId) (point : PointId) → contains_point listed point ≡ false
       → moment_of (completed_all moments moment listed) point ≡ moment_of moments point
   moment_not_listed moments [] point not_listed = refl
   moment_not_listed moments (first ∷ others) point not_listed =
-      by (first.0 == point.0) refl (is_among others point) refl not_listed (moment_not_listed (completed_at moments moment first) others point)
+      by (first.0 == point.0) refl (contains_point others point) refl not_listed (moment_not_listed (completed_at moments moment first) others point)
     where
-      by : (a : Bool) → first.0 == point.0 ≡ a → (b : Bool) → is_among others point ≡ b → (a || b) ≡ false
-          → (is_among others point ≡ false → moment_of (completed_all (completed_at moments moment first) moment others) point ≡ moment_of (completed_at moments moment first) point)
+      by : (a : Bool) → first.0 == point.0 ≡ a → (b : Bool) → contains_point others point ≡ b → (a || b) ≡ false
+          → (contains_point others point ≡ false → moment_of (completed_all (completed_at moments moment first) moment others) point ≡ moment_of (completed_at moments moment first) point)
           → moment_of (completed_all (completed_at moments moment first) moment others) point ≡ moment_of moments point
       by true same b is holds rest = absurd (true≢false holds)
       by false apart true is holds rest = absurd (true≢false holds)
       by false apart false is holds rest = let other : point.0 ≢ first.0 = grind (arith, nat_tests) in rest is ∙ moment_of_other moments moment first point other
 
   -- a listed point has the moment
-  pub moment_listed : (moments : Moments) (listed : List PointId) (point : PointId) → point.0 < length moments → is_among listed point ≡ true
+  pub moment_listed : (moments : Moments) (listed : List PointId) (point : PointId) → point.0 < length moments → contains_point listed point ≡ true
       → moment_of (completed_all moments moment listed) point ≡ Some moment
   moment_listed moments [] point inside among = absurd (true≢false (sym among))
   moment_listed moments (first ∷ others) point inside among =
       let long = length-completed_at moments moment first in
-      by (is_among others point) refl (moment_listed (completed_at moments moment first) others point (omega arith))
+      by (contains_point others point) refl (moment_listed (completed_at moments moment first) others point (omega arith))
     where
       same_number : (a : Bool) → (a || false) ≡ true → a ≡ true
       same_number true holds = refl
       same_number false holds = absurd (true≢false (sym holds))
 
-      by : (b : Bool) → is_among others point ≡ b → (is_among others point ≡ true → moment_of (completed_all (completed_at moments moment first) moment others) point ≡ Some moment)
+      by : (b : Bool) → contains_point others point ≡ b → (contains_point others point ≡ true → moment_of (completed_all (completed_at moments moment first) moment others) point ≡ Some moment)
           → moment_of (completed_all (completed_at moments moment first) moment others) point ≡ Some moment
       by true later rest = rest later
       by false only rest =

@@ -6,7 +6,7 @@ use Rattle.strategy_model.specs.Plays.{IsInstant}
 use Rattle.closure_model.specs.Tables.{Graph}
 use Rattle.dispatch_net.specs.Dispatchable.{MayDispatch, DispatchLists, IsDispatchBy}
 use Rattle.dispatch_net.specs.OfClosure.{IsDispatchOfClosure}
-use Rattle.dispatch_net.proofs.EarliestLemmas.{closures_may_dispatch}
+use Rattle.dispatch_net.proofs.EarliestLemmas.{law_closures_may_dispatch}
 use Rattle.execution_model.specs.Laws.{IsDispatchedByClosure}
 
 -- an instant network with the dispatchable network of its closure
@@ -15,7 +15,7 @@ by_closure net lists instant is = record { instant = instant; closure = is.closu
 
 module _ (net : Plan) (table : Graph) (order : List PointId) (by : IsDispatchedByClosure net table order) where
   pub may_dispatch : MayDispatch net table order
-  may_dispatch = closures_may_dispatch net table order by.instant.sound by.closure by.ordered
+  may_dispatch = law_closures_may_dispatch net table order by.instant.sound by.closure by.ordered
 
   -- what is made by the closure is the dispatchable network of it
   pub made_by : {E : Type 0} (answer : Result DispatchLists E) → IfOk answer (IsDispatchBy net table) → IfOk answer (λ lists. length lists.made ≡ length net.points) → IfOk answer (IsDispatchOfClosure net)

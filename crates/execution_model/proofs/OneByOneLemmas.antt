@@ -14,7 +14,7 @@ use Rattle.closure_model.proofs.Lists.{Contains-head, Contains-tail}
 use Rattle.dispatch_net.specs.Dispatchable.{conditions_at}
 use Rattle.net_model.specs.Moments.{Moments, moment_of}
 use Rattle.execution_model.specs.Execution.{Setting, has_come, has_gone_by, link_to, meets_bound, meets_wait_for, meets_wait, meets, is_due}
-use Rattle.execution_model.specs.Feeding.{completed_at}
+use Rattle.execution_model.specs.Feeds.{completed_at}
 use Rattle.execution_model.proofs.MomentLemmas.{due_parts, completed_keeps, moment_of_other, moment_completed}
 use Rattle.execution_model.specs.Paced.{IsRankedNetwork, ArePaced, ActsComeOneByOne}
 use Rattle.dispatch_net.proofs.SlimLists.{link_there}
@@ -118,7 +118,8 @@ module _ (setting : Setting) (rank : PointId → ℕ) (moments : Moments) (ranke
       executed : (p : PointId) (m : ℕ) → moment_of after p ≡ Some m → (p.0 == point.0 ≡ true) ⊎ (p.0 == point.0 ≡ false) → meets setting after m (conditions_at setting.dispatch p) ≡ true
       executed p m is (inl same) =
           let when : m ≡ t = same_Some m t (sym is ∙ now_at p same) in
-          let met : meets setting moments t (conditions_at setting.dispatch p) ≡ true = subst (λ (q : PointId). meets setting moments t (conditions_at setting.dispatch q) ≡ true) (sym (same_number p same)) (due_parts setting moments t point due).2 in
+          let met : meets setting moments t (conditions_at setting.dispatch p) ≡ true = subst (λ (q : PointId). meets setting moments t (conditions_at setting.dispatch q) ≡ true) (sym (same_number p same))
+          (due_parts setting moments t point due).2 in
           subst (λ (u : ℕ). meets setting after u (conditions_at setting.dispatch p) ≡ true) (sym when) (meets_later setting moments after keeps t (conditions_at setting.dispatch p) met)
       executed p m is (inr differs) = meets_later setting moments after keeps m (conditions_at setting.dispatch p) (paced.executed p m (sym (other_moment p differs) ∙ is))
 
@@ -127,6 +128,6 @@ module _ (setting : Setting) (rank : PointId → ℕ) (moments : Moments) (ranke
           let (a, a_is, late) = paced.completed link m among (sym (other_moment link.to (ends_elsewhere link among)) ∙ is) in
           (a, keeps link.from a a_is, late)
 
-pub acts_come_one_by_one : ActsComeOneByOne
-acts_come_one_by_one setting rank moments ranked paced long t point inside due =
+pub law_acts_come_one_by_one : ActsComeOneByOne
+law_acts_come_one_by_one setting rank moments ranked paced long t point inside due =
     (others_same setting rank moments ranked paced long t point inside due, still_paced setting rank moments ranked paced long t point inside due)

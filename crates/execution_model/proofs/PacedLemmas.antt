@@ -13,9 +13,9 @@ use Rattle.dispatch_net.specs.declared.dispatch.Conditions.{Conditions}
 use Rattle.dispatch_net.specs.Dispatchable.{conditions_at, no_conditions}
 use Rattle.net_model.specs.Moments.{Moments, moment_of}
 use Rattle.execution_model.specs.Execution.{Setting, has_come, has_gone_by, link_to, meets_bound, meets_wait_for, meets_wait, meets, acted, time_runs, points_of}
-use Rattle.execution_model.specs.Feeding.{started, completed_at, refusal_of, completions_taken}
+use Rattle.execution_model.specs.Feeds.{started, completed_at, refusal_of, completions_taken}
 use Rattle.execution_model.specs.Timely.{CompletesInTime}
-use Rattle.execution_model.specs.declared.feeding.Why.{Why}
+use Rattle.execution_model.specs.declared.feed_answers.Why.{Why}
 use Rattle.execution_model.proofs.PlaceLemmas.{gone_by, from_gone_by}
 use Rattle.execution_model.proofs.CutLemmas.{came}
 use Rattle.execution_model.proofs.MomentLemmas.{length-acted, acted_keeps, acted_from, due_parts, length-completed_at, completed_keeps, moment_of_other, moment_completed, within_from_some}
@@ -36,8 +36,8 @@ module _ (setting : Setting) (before after : Moments) (keeps : Keeps before afte
 
   wait_for_later : (n : ℤ) (link : Link) → meets_wait_for before t n link ≡ true → meets_wait_for after t n link ≡ true
   wait_for_later n link met =
-      let (begun, ends) = and_parts (has_come before link.from) (has_come before link.to || has_gone_by before t link.from n) met in
-      and_from (has_come after link.from) (has_come after link.to || has_gone_by after t link.from n) (come_later link.from begun)
+      let (is_activated, ends) = and_parts (has_come before link.from) (has_come before link.to || has_gone_by before t link.from n) met in
+      and_from (has_come after link.from) (has_come after link.to || has_gone_by after t link.from n) (come_later link.from is_activated)
       (elim (or_cases (has_come before link.to) (has_gone_by before t link.from n) ends) [
         | inl come ↦ or_left (has_come after link.to) (has_gone_by after t link.from n) (come_later link.to come)
         | inr gone ↦ or_right (has_come after link.to) (has_gone_by after t link.from n) (gone_later link.from n gone)

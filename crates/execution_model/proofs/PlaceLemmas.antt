@@ -1,4 +1,4 @@
--- Contingent points by the link that ends in them, what has gone by, and points that are listed.
+-- Contingent points by the link that ends in them, what has passed, and points that are listed.
 use Rattle.std.proofs.Common.{◌≡◌, ℕ, ◌+◌, ◌≤◌, ◌<◌, ℤ, true, false, List, length, Option, Some, None, is_some, ◌⊎◌, inl, inr, refl, ap, sym, subst, ◌∙◌}
 use Rattle.std.specs.Prelude.{unsigned_abs, nat_le}
 use Rattle.std.specs.List.{Contains}
@@ -7,7 +7,7 @@ use Rattle.std.proofs.lemmas.Bool.{cases_Bool, false_from_ne_true, le-leb, leb-t
 use Rattle.net_model.specs.Network.{Plan, IsPlan, IsPoint, IsContingent, activation}
 use Rattle.net_model.specs.declared.ids.PointId.{PointId}
 use Rattle.net_model.specs.declared.part.Link.{Link}
-use Rattle.closure_model.specs.Orders.{is_among}
+use Rattle.closure_model.specs.Orders.{contains_point}
 use Rattle.closure_model.proofs.OrderLemmas.{among_from, from_among}
 use Rattle.strategy_model.proofs.PlayLemmas.{link_sound}
 use Rattle.strategy_model.proofs.KnownLemmas.{some_from_none}
@@ -38,7 +38,7 @@ contingent_ending net point contingent =
 pub ending_contingent : (net : Plan) (point : PointId) → Ending net point → IsContingent net point
 ending_contingent net point ending = some_from_none (activation net point) (ending_known net point ending)
 
--- ---- what has gone by
+-- ---- what has passed
 pub gone_by : (moments : Moments) (t : ℕ) (point : PointId) (n : ℤ) (m : ℕ) → moment_of moments point ≡ Some m → m + unsigned_abs n ≤ t → has_gone_by moments t point n ≡ true
 gone_by moments t point n m known within =
     ap (λ (o : Option ℕ). option_map_or (λ moment. nat_le (moment + unsigned_abs n) t) o false) known ∙ le-leb (m + unsigned_abs n) t within
@@ -57,7 +57,7 @@ from_gone_by moments t point n holds = by (moment_of moments point) refl holds
 pub not_completed : (moments : Moments) (t : ℕ) (listed : List PointId) (point : PointId) → (Contains listed point → ⊥)
     → moment_of (completed_all moments t listed) point ≡ moment_of moments point
 not_completed moments t listed point absent =
-    moment_not_listed t moments listed point (false_from_ne_true (is_among listed point) (λ among. absent (from_among listed point among)))
+    moment_not_listed t moments listed point (false_from_ne_true (contains_point listed point) (λ among. absent (from_among listed point among)))
 
 -- a listed one has this moment
 pub has_completed : (moments : Moments) (t : ℕ) (listed : List PointId) (point : PointId) → point.0 < length moments → Contains listed point
@@ -67,7 +67,7 @@ has_completed moments t listed point inside among = moment_listed t moments list
 -- whether a point is listed
 pub is_listed : (listed : List PointId) (point : PointId) → Contains listed point ⊎ (Contains listed point → ⊥)
 is_listed listed point =
-    elim (cases_Bool (is_among listed point)) [
+    elim (cases_Bool (contains_point listed point)) [
       | inl listed_there ↦ inl (from_among listed point listed_there)
       | inr absent ↦ inr (λ among. true≢false (sym (among_from listed point among) ∙ absent))
     ]

@@ -7,21 +7,22 @@ use Rattle.std.proofs.lemmas.List.{length-map}
 use Rattle.net_model.specs.declared.ids.PointId.{PointId}
 use Rattle.net_model.specs.Moments.{Moments, moment_of}
 use Rattle.execution_model.specs.Execution.{Setting, points_of, is_due, acts_at, acted, time_runs, acts_while}
-use Rattle.execution_model.specs.Feeding.{Execution, next_moment, moments_to, moments_before, refusal_of, completed_at, completions_taken, is_overdue, overdue_why, first_overdue, none_overdue, completed_in, refusal_of_moment, taken, after_feed, IsFed, is_open, first_open, last_of, IsWhole, IsFinished, IsNextDue}
+use Rattle.execution_model.specs.Feeds.{Execution, next_moment, moments_to, moments_before, refusal_of, completed_at, completions_taken, is_overdue, overdue_why, first_overdue, none_overdue, completed_in, refusal_of_moment, taken}
+use Rattle.execution_model.specs.Feeds.{after_feed, IsFed, is_open, first_open, last_of, IsWhole, IsFinished, IsNextDue}
 use Rattle.execution_model.specs.Streams.{Listing}
 use Rattle.execution_model.specs.Timely.{fed_all}
-use Rattle.execution_model.specs.declared.feeding.Act.{Act}
-use Rattle.execution_model.specs.declared.feeding.Why.{Why}
-use Rattle.execution_model.specs.declared.feeding.Fed.{Fed}
-use Rattle.execution_model.specs.declared.feeding.Fed.TheVariants as fed
-use Rattle.execution_model.specs.declared.feeding.Finished.{Finished}
-use Rattle.execution_model.specs.declared.feeding.Finished.TheVariants as finished
+use Rattle.execution_model.specs.declared.feed_answers.Act.{Act}
+use Rattle.execution_model.specs.declared.feed_answers.Why.{Why}
+use Rattle.execution_model.specs.declared.feed_answers.Fed.{Fed}
+use Rattle.execution_model.specs.declared.feed_answers.Fed.TheVariants as fed
+use Rattle.execution_model.specs.declared.feed_answers.Finished.{Finished}
+use Rattle.execution_model.specs.declared.feed_answers.Finished.TheVariants as finished
 use Rattle.execution_model.proofs.FedLemmas.{fed_on}
 use Rattle.execution_model.proofs.MomentLemmas.{length-acted, length-time_runs}
 use Rattle.dispatch_net.specs.Slim.{slim_conditions}
 use Rattle.execution_model.specs.Paced.{IsRankedNetwork, ArePaced, slim_setting}
 use Rattle.execution_model.specs.SlimLaws.{slim_execution, GoesTheSame}
-use Rattle.execution_model.proofs.SlimLemmas.{slim_is_due_the_same}
+use Rattle.execution_model.proofs.SlimLemmas.{law_slim_is_due_the_same}
 use Rattle.execution_model.proofs.PacedLemmas.{acted_paced, time_paced, taken_paced}
 
 module _ (setting : Setting) (rank : PointId → ℕ) (ranked : IsRankedNetwork setting rank) where
@@ -50,7 +51,7 @@ module _ (setting : Setting) (rank : PointId → ℕ) (ranked : IsRankedNetwork 
 
   module _ (moments : Moments) (paced : ArePaced setting moments) where
     same_due : (t : ℕ) → is_due slim moments t ≡ is_due setting moments t
-    same_due t = λ i point. slim_is_due_the_same setting rank moments ranked paced t point i
+    same_due t = λ i point. law_slim_is_due_the_same setting rank moments ranked paced t point i
 
     pub same_acts : (t : ℕ) → acts_at slim moments t ≡ acts_at setting moments t
     same_acts t = λ i. map (λ point. let act : Act = record { moment = t; point = point } in act) (filter (same_due t i) (same_points i))
@@ -197,7 +198,7 @@ module _ (execution : Execution) (rank : PointId → ℕ) (ranked : IsRankedNetw
   goes_the_same = record { acts = acts_here; taken = same_taken; fed = same_fed; next_due = same_next; finished = same_finished }
 
 -- ---- several feeds
--- an execution that is fed to an end goes on there as it would without what others imply
+-- an execution that is fed to an end continues there as it would without what others imply
 abbrev pub FeedsTheSame : List Listing → Execution → Execution → Type 0
 FeedsTheSame listings execution old = (fed_all (slim_execution execution) listings ≡ Ok (slim_execution old)) × GoesTheSame old
 

@@ -16,7 +16,7 @@ use Rattle.strategy_model.proofs.PlayLemmas.{link_sound}
 use Rattle.strategy_model.proofs.KindLemmas.{Ending}
 use Rattle.net_model.specs.Moments.{Moments, moment_of}
 use Rattle.execution_model.specs.Execution.{Setting, time_runs}
-use Rattle.execution_model.specs.Feeding.{Execution, next_moment, moments_to, moments_before}
+use Rattle.execution_model.specs.Feeds.{Execution, next_moment, moments_to, moments_before}
 use Rattle.execution_model.specs.Streams.{Listing}
 use Rattle.execution_model.specs.Timely.{CompletesInTime, IsInTime, AreInTime}
 use Rattle.execution_model.specs.Laws.{IsExecutionOf}
@@ -38,13 +38,13 @@ module _ (net : Plan) (table : Graph) (schedule : List ℕ) (final : Moments) (s
   -- a link whose completion was seen ends then
   seen_end : (name : LinkId) (link : Link) (c a : ℕ) → IsLinkOf net name link → moment_of final link.to ≡ Some c → moment_of final link.from ≡ Some a
       → moment_in schedule link.from ≡ a → moment_in schedule link.to ≡ c
-  seen_end name link c a declared completed active begun =
+  seen_end name link c a declared completed active is_activated =
       let its = shown.each name link c declared completed in
       let same : its.activated ≡ a = same_Some its.activated a (sym its.active ∙ active) in
       let low = its.low in
       let lasting = shown.timed name link declared in
       let duration = seen_lasts net shown.run.plan final shown.each name link c a completed active in
-      omega (arith, lasting, duration, begun, same, low)
+      omega (arith, lasting, duration, is_activated, same, low)
 
   open_end : (name : LinkId) (link : Link) → IsLinkOf net name link → moment_of final link.to ≡ None → moment_in schedule link.to ≡ moment_in schedule link.from + unsigned_abs link.high
   open_end name link declared open_still = shown.timed name link declared ∙ ap (λ d. moment_in schedule link.from + d) (not_seen_lasts net shown.run.plan final shown.each link open_still)
@@ -125,9 +125,9 @@ module _ (net : Plan) (table : Graph) (schedule : List ℕ) (final : Moments) (s
             subst (λ (setting : Setting). IsCut net schedule (time_runs setting execution.moments (next_moment execution) k) (next_moment execution + k)) (sym keeps.setting)
             (time_cut net table schedule shown.run k execution.moments (next_moment execution) keeps.cut sooner) in
             let sound = link_sound net shown.run.plan ending.name.0 link ending.declared in
-            let begun = cut.known link.from sound.from_point (omega (arith, at, lasting, low, one, below)) in
+            let is_activated = cut.known link.from sound.from_point (omega (arith, at, lasting, low, one, below)) in
             let later = in_time.later in
-            let active = still k link.from (moment_in schedule link.from) (omega (arith, within)) begun in
+            let active = still k link.from (moment_in schedule link.from) (omega (arith, within)) is_activated in
             let reached = reached_is_listed ending.name link ending.declared (omega (arith, at, at_least)) (omega (arith, at, below, within)) active in
             let is = reached.1 in
             omega (arith, is, at, below, within)
@@ -146,11 +146,11 @@ module _ (net : Plan) (table : Graph) (schedule : List ℕ) (final : Moments) (s
         let active : moment_of (moments_before execution listing.moment) link.from ≡ Some timely.activated =
         ap (λ (l : Link). moment_of (moments_before execution listing.moment) l.from) same ∙ timely.active in
         let sound = link_sound net shown.run.plan ending.name.0 link ending.declared in
-        let begun = sym (cut_value net schedule (moments_before execution listing.moment) listing.moment before_cut link.from timely.activated sound.from_point active).0 in
+        let is_activated = sym (cut_value net schedule (moments_before execution listing.moment) listing.moment before_cut link.from timely.activated sound.from_point active).0 in
         let found : moment_of final link.to ≡ Some listing.moment = ap (moment_of final) ending.ends ∙ listed_finally point ending among in (
           ending_contingent net point ending,
           sym (ap (moment_in schedule) ending.ends) ∙ seen_end ending.name link listing.moment timely.activated ending.declared found
-              (finally link.from timely.activated active) begun,
+              (finally link.from timely.activated active) is_activated,
         )
 
     listed : (point : PointId) → IsContingent net point → next_moment execution ≤ moment_in schedule point → moment_in schedule point ≤ listing.moment → Contains listing.points point

@@ -15,12 +15,12 @@ use Rattle.strategy_model.specs.Situations.{moment_in}
 use Rattle.strategy_model.proofs.KindLemmas.{Ending, kind_of_any}
 use Rattle.strategy_model.proofs.MomentLemmas.{point_at}
 use Rattle.strategy_model.proofs.PlayLemmas.{link_sound}
-use Rattle.strategy_model.proofs.ShownFormLemmas.{earliest_is_shown, many_points, moment_in_shown, situations_are_shown}
+use Rattle.strategy_model.proofs.ShownFormLemmas.{law_earliest_is_shown, many_points, moment_in_shown, law_situations_are_shown}
 use Rattle.strategy_model.proofs.ShownPlayLemmas.{activation_shown}
 use Rattle.execution_model.specs.Acts.{executes_at, scheduled, scheduled_at}
 use Rattle.execution_model.specs.ShownStreams.{ActsAreShown, FitsAsShown, ListsAsShown, StreamsAreShown}
-use Rattle.execution_model.specs.Streams.{Fits, HasGoneBy, IsListed, Shows, Stream, fixed_by}
-use Rattle.execution_model.specs.declared.feeding.Act.{Act}
+use Rattle.execution_model.specs.Streams.{FitsSituation, HasGoneBy, IsListed, Shows, Stream, fixed_by}
+use Rattle.execution_model.specs.declared.feed_answers.Act.{Act}
 
 none_or_some : (o : Option LinkId) → o ≡ None → IsSome o → ⊥
 none_or_some None none some = absurd cc
@@ -88,27 +88,27 @@ module _ (net : Plan) where
 
   module _ (plan : IsPlan net) (stream : Stream) where
     fits_shown : (situation : List ℕ) (stated : FitsAsShown net stream situation)
-        → (shown : Fits (shown_form net) stream (shown_situation net situation)) × (shown.schedule ≡ shown_schedule net stated.schedule)
+        → (shown : FitsSituation (shown_form net) stream (shown_situation net situation)) × (shown.schedule ≡ shown_schedule net stated.schedule)
     fits_shown situation stated = (
       record {
         schedule = shown_schedule net stated.schedule;
-        earliest = (earliest_is_shown net situation plan).0 stated.schedule stated.earliest;
+        earliest = (law_earliest_is_shown net situation plan).0 stated.schedule stated.earliest;
         shows = lists_shown plan stream stated.schedule (earliest_long net situation stated.schedule stated.earliest) stated.lists;
       },
       refl,
     )
 
-    stated_fits : (situation : List ℕ) (shown : Fits (shown_form net) stream situation)
+    stated_fits : (situation : List ℕ) (shown : FitsSituation (shown_form net) stream situation)
         → (stated : List ℕ) × (its : FitsAsShown net stream stated) × (shown_situation net stated ≡ situation) × (shown_schedule net its.schedule ≡ shown.schedule)
     stated_fits situation fits =
-        let (stated, is_situation, same) = (situations_are_shown net situation plan).1 fits.earliest.is_situation in
+        let (stated, is_situation, same) = (law_situations_are_shown net situation plan).1 fits.earliest.is_situation in
         let earliest = subst (λ (s : List ℕ). IsEarliest (shown_form net) s fits.schedule) (sym same) fits.earliest in
-        let (schedule, is_earliest, as_shown) = (earliest_is_shown net stated plan).1 fits.schedule is_situation earliest in
+        let (schedule, is_earliest, as_shown) = (law_earliest_is_shown net stated plan).1 fits.schedule is_situation earliest in
         let shows = subst (Shows (shown_form net) stream) (sym as_shown) fits.shows in
         (stated, record { schedule = schedule; earliest = is_earliest; lists = shown_lists plan stream schedule (earliest_long net stated schedule is_earliest) shows }, same, as_shown)
 
-pub streams_are_shown : StreamsAreShown
-streams_are_shown net stream plan = record {
+pub law_streams_are_shown : StreamsAreShown
+law_streams_are_shown net stream plan = record {
   fits = fits_shown net plan stream;
   only = stated_fits net plan stream;
   faithful = (
@@ -127,7 +127,7 @@ streams_are_shown net stream plan = record {
 
 -- ---- the acts
 module _ (net : Plan) where
-  -- where a point is shown at once, its moment is as it was
+  -- if a point is shown at once, its moment is as it was
   same_moment : (points : List PointId) (moments : List ℕ) (k : ℕ) → ((point : PointId) → slice_get points k ≡ Some point → lag net point ≡ 0)
       → slice_index (shown_moments net points moments) k ≡ slice_index moments k
   same_moment [] [] k at_once = refl
@@ -160,8 +160,8 @@ module _ (net : Plan) where
         let act : PointId → Act = λ point. record { moment = moment; point = point } in
         ap (map act) (filter_agree (executes_at (shown_form net) (shown_schedule net schedule) moment) (executes_at net schedule moment) executes_same (points_of net))
 
-pub acts_are_shown : ActsAreShown
-acts_are_shown net schedule moment zero = refl
-acts_are_shown net schedule moment (suc count) =
+pub law_acts_are_shown : ActsAreShown
+law_acts_are_shown net schedule moment zero = refl
+law_acts_are_shown net schedule moment (suc count) =
     ap (λ (acts : List Act). acts ++ scheduled (shown_form net) (shown_schedule net schedule) (suc moment) count) (acts_same net schedule moment)
-    ∙ ap (λ (acts : List Act). scheduled_at net schedule moment ++ acts) (acts_are_shown net schedule (suc moment) count)
+    ∙ ap (λ (acts : List Act). scheduled_at net schedule moment ++ acts) (law_acts_are_shown net schedule (suc moment) count)

@@ -1,4 +1,4 @@
--- Feeds that are in time fit a situation: each link lasts as long as was seen, and its longest where its contingent point has not come.
+-- Feeds that are in time fit a situation: each link lasts as long as was seen, and its longest if its contingent point has not come.
 use Rattle.std.proofs.Common.{◌≡◌, ℕ, suc, pos, ◌+◌, ◌-◌, ◌≤◌, ℤ, List, [], ◌∷◌, length, map, Option, Some, None, ◌⊎◌, inl, inr, refl, ap, sym, subst, ◌∙◌, arith}
 use Rattle.std.specs.Prelude.{unsigned_abs, slice_get, ◌≤ℤ◌}
 use Rattle.std.specs.List.{AllZip, Contains}
@@ -15,7 +15,7 @@ use Rattle.strategy_model.specs.Situations.{IsSituation, IsDuration}
 use Rattle.strategy_model.proofs.PlayLemmas.{link_sound}
 use Rattle.strategy_model.proofs.KindLemmas.{Ending}
 use Rattle.net_model.specs.Moments.{Moments, moment_of}
-use Rattle.execution_model.specs.Feeding.{Execution, next_moment, moments_to, moments_before}
+use Rattle.execution_model.specs.Feeds.{Execution, next_moment, moments_to, moments_before}
 use Rattle.execution_model.specs.Streams.{Listing}
 use Rattle.execution_model.specs.Timely.{CompletesInTime, IsInTime, with_completed, AreInTime}
 use Rattle.execution_model.specs.Laws.{IsExecutionOf}
@@ -67,7 +67,7 @@ module _ (net : Plan) (execution : Execution) (of : IsExecutionOf net execution)
         acted_contingent execution.setting (with_completed execution listing.moment listing.points) listing.moment length_completed point ending.link
         (link_found net of.instant.sound execution.setting of.links point ending)
 
-    -- a contingent point has come after a feed where it is listed or had come before
+    -- a contingent point has come after a feed if it is listed or had come before
     pub feed_listed : (point : PointId) → Ending net point → Contains listing.points point
         → moment_of (after_listing execution listing).moments point ≡ Some listing.moment
     feed_listed point ending among =
@@ -204,12 +204,12 @@ seen_fits : (low high : ℤ) (c a : ℕ) → pos 1 ≤ℤ low → low ≤ℤ hig
 seen_fits low high c a positive interval low_is high_is = (grind (arith, ints), grind (arith, ints))
 
 module _ (net : Plan) (plan : IsPlan net) (moments : Moments) (each : EachLasted net moments) where
-  -- where it was seen
+  -- if it was seen
   pub seen_lasts : (name : LinkId) (link : Link) (c a : ℕ) → moment_of moments link.to ≡ Some c → moment_of moments link.from ≡ Some a → duration_seen moments link ≡ c - a
   seen_lasts name link c a completed active =
       ap (λ (o : Option ℕ). duration_between (unsigned_abs link.high) o (moment_of moments link.from)) completed ∙ ap (duration_between (unsigned_abs link.high) (Some c)) active
 
-  -- and where it was not
+  -- and if it was not
   pub not_seen_lasts : (link : Link) → moment_of moments link.to ≡ None → duration_seen moments link ≡ unsigned_abs link.high
   not_seen_lasts link open_still = ap (λ (o : Option ℕ). duration_between (unsigned_abs link.high) o (moment_of moments link.from)) open_still
 

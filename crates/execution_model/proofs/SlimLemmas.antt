@@ -1,4 +1,4 @@
--- What is dropped is met where what is kept is.
+-- What is dropped is met if what is kept is met.
 use Rattle.std.proofs.Common.{◌≡◌, ℕ, zero, suc, ◌+◌, ◌<◌, ◌≤◌, ℤ, pos, Bool, true, false, List, Option, Some, None, is_none, is_some, refl, ap, sym, subst, ◌∙◌, inl, inr, arith}
 use Rattle.std.specs.Prelude.{◌&&◌, ◌||◌, ◌==◌, not, ◌+ℤ◌, ◌<ℤ◌, int_le, slice_get, unsigned_abs}
 use Rattle.std.specs.List.{Contains, list_all}
@@ -14,10 +14,10 @@ use Rattle.closure_model.proofs.Lists.{Contains-filter, Contains-filter_from, an
 use Rattle.execution_model.specs.Execution.{Setting, has_come, has_gone_by, link_to, meets_bound, meets_wait_for, meets_wait, meets}
 use Rattle.execution_model.proofs.PlaceLemmas.{gone_by, from_gone_by}
 use Rattle.dispatch_net.proofs.SlimLists.{list_passes, passes_each, same_point, adds_up, no_less, some_low, link_there, slim_at}
-use Rattle.dispatch_net.specs.Slim.{over_point, over_link, is_bound_implied, over_end, over_wait, is_wait_implied, slim_conditions}
+use Rattle.dispatch_net.specs.Slim.{over_point, implied_over_link, is_bound_implied, over_end, over_wait, is_wait_implied, slim_conditions}
 use Rattle.execution_model.specs.Paced.{IsRankedNetwork, ArePaced, SlimIsDueTheSame}
 
--- ---- one condition that is met where another is
+-- ---- one condition that is met if another is
 module _ (setting : Setting) (rank : PointId → ℕ) (moments : Moments) (ranked : IsRankedNetwork setting rank) (paced : ArePaced setting moments) (t : ℕ) where
   abbrev made : List Conditions
   made = setting.dispatch
@@ -35,7 +35,7 @@ module _ (setting : Setting) (rank : PointId → ℕ) (moments : Moments) (ranke
       let sum = adds_up bound.1 other.1 inner.1 enough n_above m_above (ranked.lists.bounds_positive other.0 inner among) in
       gone_by moments t bound.0 bound.1 y its (omega (arith, z_gone, y_gone, sum))
 
-  met_over_link : (bound other : PointId × ℤ) → pos 0 <ℤ bound.1 → pos 0 <ℤ other.1 → over_link setting.links bound other ≡ true → meets_bound moments t other ≡ true
+  met_over_link : (bound other : PointId × ℤ) → pos 0 <ℤ bound.1 → pos 0 <ℤ other.1 → implied_over_link setting.links bound other ≡ true → meets_bound moments t other ≡ true
       → meets_bound moments t bound ≡ true
   met_over_link bound other n_above m_above over met =
       let (link, among, tested) = any_is (λ (link : Link). link.to.0 == other.0.0 && (link.from.0 == bound.0.0 && int_le bound.1 (other.1 +ℤ link.low))) setting.links over in
@@ -102,9 +102,9 @@ module _ (setting : Setting) (rank : PointId → ℕ) (moments : Moments) (ranke
             let (link, at, holds) = link_of (meets_wait_for moments z inner.1) inner.0.0 inner_met in
             let declared : slice_get setting.links wait.0.0 ≡ Some link = subst (λ (k : ℕ). slice_get setting.links k ≡ Some link) (eqb-true inner.0.0 wait.0.0 same) at in
             let sum = adds_up wait.1 other.1 inner.1 enough n_above m_above (ranked.lists.waits_positive other.0 inner among) in
-            let (begun, ends) = and_parts (has_come moments link.from) (has_come moments link.to || has_gone_by moments z link.from inner.1) holds in
+            let (is_activated, ends) = and_parts (has_come moments link.from) (has_come moments link.to || has_gone_by moments z link.from inner.1) holds in
             wait_of wait link declared
-            (and_from (has_come moments link.from) (has_come moments link.to || has_gone_by moments t link.from wait.1) begun
+            (and_from (has_come moments link.from) (has_come moments link.to || has_gone_by moments t link.from wait.1) is_activated
             (elim (or_cases (has_come moments link.to) (has_gone_by moments z link.from inner.1) ends) [
               | inl come ↦ or_left (has_come moments link.to) (has_gone_by moments t link.from wait.1) come
               | inr gone ↦
@@ -120,18 +120,18 @@ module _ (setting : Setting) (rank : PointId → ℕ) (moments : Moments) (ranke
     abbrev slim : Conditions
     slim = slim_conditions setting.links made lists
 
-    -- each lower bound is met where those that are kept are: along the order, from the last point on
+    -- each lower bound is met if those that are kept are: along the order, from the last point on
     bound_met : list_all (meets_bound moments t) slim.lower_bounds ≡ true → (fuel : ℕ) (bound : PointId × ℤ) → Contains lists.lower_bounds bound → rank point ≤ rank bound.0 + fuel
         → meets_bound moments t bound ≡ true
     bound_met kept zero bound among near = absurd (let less = ranked.lists.bounds point bound among in omega (arith, less, near))
     bound_met kept (suc fuel) bound among near = by (λ other there nearer. bound_met kept fuel other there nearer) (is_bound_implied setting.links made lists bound) refl
       where
-        over : (other : PointId × ℤ) → Contains lists.lower_bounds other → (over_point made bound other || over_link setting.links bound other) ≡ true
+        over : (other : PointId × ℤ) → Contains lists.lower_bounds other → (over_point made bound other || implied_over_link setting.links bound other) ≡ true
             → (rank bound.0 < rank other.0) × (meets_bound moments t other ≡ true → meets_bound moments t bound ≡ true)
         over other there holds =
             let n_above = ranked.lists.bounds_positive point bound among in
             let m_above = ranked.lists.bounds_positive point other there in
-            elim (or_cases (over_point made bound other) (over_link setting.links bound other) holds) [
+            elim (or_cases (over_point made bound other) (implied_over_link setting.links bound other) holds) [
               | inl first ↦
                   (let (inner, within, tested) = any_is (λ (inner : PointId × ℤ). inner.0.0 == bound.0.0 && int_le bound.1 (other.1 +ℤ inner.1)) (conditions_at made other.0).lower_bounds first in
                   let same : inner.0 ≡ bound.0 = same_point inner.0 bound.0 (and_parts (inner.0.0 == bound.0.0) (int_le bound.1 (other.1 +ℤ inner.1)) tested).0 in
@@ -140,7 +140,7 @@ module _ (setting : Setting) (rank : PointId → ℕ) (moments : Moments) (ranke
                   (let (link, within, tested) = any_is (λ (link : Link). link.to.0 == other.0.0 && (link.from.0 == bound.0.0 && int_le bound.1 (other.1 +ℤ link.low))) setting.links second in
                   let (to, more) = and_parts (link.to.0 == other.0.0) (link.from.0 == bound.0.0 && int_le bound.1 (other.1 +ℤ link.low)) tested in
                   let from = (and_parts (link.from.0 == bound.0.0) (int_le bound.1 (other.1 +ℤ link.low)) more).0 in
-                  let goes : rank link.from < rank link.to = ranked.lists.links_fall link within in
+                  let goes : rank link.from < rank link.to = ranked.lists.links_go_down link within in
                   let begins : rank link.from ≡ rank bound.0 = ap rank (same_point link.from bound.0 from) in
                   let ends : rank link.to ≡ rank other.0 = ap rank (same_point link.to other.0 to) in
                   (omega (arith, goes, begins, ends), met_over_link bound other n_above m_above second))
@@ -150,7 +150,7 @@ module _ (setting : Setting) (rank : PointId → ℕ) (moments : Moments) (ranke
             → (b : Bool) → is_bound_implied setting.links made lists bound ≡ b → meets_bound moments t bound ≡ true
         by rest false is = passes_each (meets_bound moments t) slim.lower_bounds bound kept (Contains-filter (λ b. not (is_bound_implied setting.links made lists b)) lists.lower_bounds bound among (ap not is))
         by rest true is =
-            let (other, there, holds) = any_is (λ other. over_point made bound other || over_link setting.links bound other) lists.lower_bounds is in
+            let (other, there, holds) = any_is (λ other. over_point made bound other || implied_over_link setting.links bound other) lists.lower_bounds is in
             let (further, meets) = over other there holds in
             meets (rest other there (omega (arith, further, near)))
 
@@ -189,10 +189,12 @@ module _ (setting : Setting) (rank : PointId → ℕ) (moments : Moments) (ranke
         down holds =
             let (bounds, waits) = and_parts (list_all (meets_bound moments t) lists.lower_bounds) (list_all (meets_wait setting moments t) lists.waits) holds in
             and_from (list_all (meets_bound moments t) slim.lower_bounds) (list_all (meets_wait setting moments t) slim.waits)
-            (list_passes (meets_bound moments t) slim.lower_bounds (λ bound among. passes_each (meets_bound moments t) lists.lower_bounds bound bounds (Contains-filter_from (λ b. not (is_bound_implied setting.links made lists b)) lists.lower_bounds bound among)))
-            (list_passes (meets_wait setting moments t) slim.waits (λ wait among. passes_each (meets_wait setting moments t) lists.waits wait waits (Contains-filter_from (λ w. not (is_wait_implied setting.links made lists w)) lists.waits wait among)))
+            (list_passes (meets_bound moments t) slim.lower_bounds (λ bound among. passes_each (meets_bound moments t) lists.lower_bounds bound bounds
+            (Contains-filter_from (λ b. not (is_bound_implied setting.links made lists b)) lists.lower_bounds bound among)))
+            (list_passes (meets_wait setting moments t) slim.waits (λ wait among. passes_each (meets_wait setting moments t) lists.waits wait waits
+            (Contains-filter_from (λ w. not (is_wait_implied setting.links made lists w)) lists.waits wait among)))
 
-pub slim_is_due_the_same : SlimIsDueTheSame
-slim_is_due_the_same setting rank moments ranked paced t point =
+pub law_slim_is_due_the_same : SlimIsDueTheSame
+law_slim_is_due_the_same setting rank moments ranked paced t point =
     ap (λ (c : Conditions). is_none (link_to setting point) && is_none (moment_of moments point) && meets setting moments t c) (slim_at setting.links setting.dispatch point)
     ∙ ap (λ (b : Bool). is_none (link_to setting point) && is_none (moment_of moments point) && b) (slim_meets_the_same setting rank moments ranked paced t point)

@@ -16,7 +16,7 @@ use Rattle.strategy_model.specs.Plays.{same_point}
 use Rattle.dispatch_net.proofs.ExecutionLemmas.{dispatchable_length}
 use Rattle.net_model.specs.Moments.{Moments}
 use Rattle.execution_model.specs.Execution.{points_of}
-use Rattle.execution_model.specs.Feeding.{Execution, started}
+use Rattle.execution_model.specs.Feeds.{Execution, started}
 use Rattle.execution_model.specs.Streams.{Listing, IsListed, Shows, cut_at}
 use Rattle.execution_model.specs.Laws.{setting_of, going_on, ended}
 use Rattle.execution_model.proofs.MomentLemmas.{length-points}
@@ -130,7 +130,7 @@ module _ (net : Plan) (schedule : List ℕ) where
   }
   next_are_shown from (listing ∷ others) (is, are) = next_shown from listing others is (next_are_shown (listing.moment + 1) others are)
 
-  -- a stream that goes on shows what comes next, listing by listing
+  -- a stream that continues shows what comes next, listing by listing
   pub shows_next : (listings : List Listing) → Shows net (going_on listings) schedule → AreNext net schedule 0 listings
   shows_next listings shows = shown_are_next 0 listings (record {
     rises = shows.rises;
@@ -181,7 +181,7 @@ module _ (net : Plan) (schedule : List ℕ) where
             | inr later ↦ above (l.moment + 1) ls are later
           ]
 
-  -- what a done stream shows, it shows where it goes on
+  -- what a done stream shows, it also shows as one that continues
   pub done_shows : (listings : List Listing) → Shows net (ended listings) schedule → Shows net (going_on listings) schedule
   done_shows listings shows = record {
     rises = shows.rises;
@@ -190,7 +190,7 @@ module _ (net : Plan) (schedule : List ℕ) where
     complete = λ point contingent gone. let is = shows.complete point contingent (inl refl) in record { listing = is.listing; among = is.among; at = is.at; named = is.named };
   }
 
-  -- and it may be said to be done where every contingent point is listed
+  -- and it may be said to be done if every contingent point is listed
   pub shows_done : (listings : List Listing) → Shows net (going_on listings) schedule
       → ((point : PointId) → IsContingent net point → IsListed (going_on listings) point (moment_in schedule point))
       → Shows net (ended listings) schedule
@@ -240,7 +240,7 @@ cut_is net schedule moments last complete cut =
         ])
         ∙ sym (get_or-map shown schedule k 0 d stands)
 
--- where every point has come, they are the whole of the schedule
+-- if every point has come, they are the whole of the schedule
 pub whole_is : (net : Plan) (schedule : List ℕ) (moments : Moments) (t : ℕ) → length schedule ≡ length net.points → IsCut net schedule moments t → All IsSome moments
     → moments ≡ map Some schedule
 whole_is net schedule moments t complete cut come =

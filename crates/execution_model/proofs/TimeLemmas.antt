@@ -19,7 +19,7 @@ pub cut_same : (net : Plan) (schedule : List ℕ) (moments : Moments) (t u : ℕ
 cut_same net schedule moments t u same cut = subst (IsCut net schedule moments) same cut
 
 module _ (net : Plan) (table : Graph) (schedule : List ℕ) (run : IsRun net table schedule) where
-  -- where no contingent point comes at a moment, its completions are none
+  -- if no contingent point comes at a moment, its completions are none
   pub none_seen : (moments : Moments) (t : ℕ) → IsCut net schedule moments t → NoneComes net schedule t (suc t) → IsSeen net schedule moments t
   none_seen moments t cut none = record {
     long = cut.long;

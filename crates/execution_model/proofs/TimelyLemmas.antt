@@ -1,4 +1,4 @@
--- A feed is taken exactly where its completions are in time.
+-- A feed is taken exactly if its completions are in time.
 use Rattle.std.proofs.Common.{◌≡◌, ◌≢◌, ℕ, ◌+◌, ◌<◌, ◌≤◌, ℤ, pos, Bool, true, false, List, [], ◌∷◌, length, get_or, Option, Some, None, Result, Ok, Err, is_some, refl, ap, sym, subst, ◌∙◌, arith}
 use Rattle.std.specs.Prelude.{◌≤ℤ◌, nat_lt, nat_le, unsigned_abs, find, if◌then◌else◌}
 use Rattle.std.specs.List.{All, Contains, IsDistinct}
@@ -12,17 +12,18 @@ use Rattle.std.proofs.lemmas.List.Elements.{All-nil, All-cons, All-head, All-tai
 use Rattle.net_model.specs.Network.{Plan, IsPlan, IsLink, IsPoint}
 use Rattle.net_model.specs.declared.ids.PointId.{PointId}
 use Rattle.net_model.specs.declared.part.Link.{Link}
-use Rattle.closure_model.specs.Orders.{is_among}
+use Rattle.closure_model.specs.Orders.{contains_point}
 use Rattle.closure_model.proofs.OrderLemmas.{find_some, find_none, among_from, from_among}
 use Rattle.strategy_model.specs.Plays.{same_point}
 use Rattle.net_model.specs.Moments.{Moments, moment_of}
 use Rattle.execution_model.specs.Execution.{Setting, points_of, link_to}
 use Rattle.net_model.specs.Limits.{most_moment}
-use Rattle.execution_model.specs.Feeding.{Execution, next_moment, moments_to, moments_before, refusal_of_duration, activated_before, refusal_of_completion, refusal_of, completed_at, completions_taken, latest_of, is_overdue, overdue_why, first_overdue, none_overdue, completed_in, refusal_of_moment, taken}
+use Rattle.execution_model.specs.Feeds.{Execution, next_moment, moments_to, moments_before, refusal_of_duration, activated_before, refusal_of_completion, refusal_of, completed_at, completions_taken, latest_of, is_overdue, overdue_why}
+use Rattle.execution_model.specs.Feeds.{first_overdue, none_overdue, completed_in, refusal_of_moment, taken}
 use Rattle.execution_model.specs.Timely.{CompletesInTime, IsInTime, with_completed}
 use Rattle.execution_model.specs.Laws.{IsExecutionOf, FeedsAreTakenInTime}
-use Rattle.execution_model.specs.declared.feeding.Why.{Why}
-use Rattle.execution_model.specs.declared.feeding.Why.TheVariants as why
+use Rattle.execution_model.specs.declared.feed_answers.Why.{Why}
+use Rattle.execution_model.specs.declared.feed_answers.Why.TheVariants as why
 use Rattle.execution_model.proofs.LinkLemmas.{link_to_is_sound, link_to_is_point}
 use Rattle.execution_model.proofs.MomentLemmas.{length-time_runs, length-completed_at, moment_completed, moment_of_other, completed_all, moment_not_listed, moment_listed, Contains-point}
 
@@ -53,10 +54,10 @@ refusal_at moments moment point link (Some completed) = Some (why.Twice point co
 refusal_at moments moment point link None = option_map_or (refusal_of_duration moment point link) (activated_before moments moment link) (Some (why.NotActive point))
 
 module _ (setting : Setting) (moments : Moments) (moment : ℕ) (point : PointId) where
-  over_link : (link : Link) (activated : ℕ) → link_to setting point ≡ Some link → moment_of moments point ≡ None → moment_of moments link.from ≡ Some activated
+  implied_over_link : (link : Link) (activated : ℕ) → link_to setting point ≡ Some link → moment_of moments point ≡ None → moment_of moments link.from ≡ Some activated
       → refusal_of_duration moment point link activated ≡ None
       → CompletesInTime setting moments moment point
-  over_link link activated ends new active free =
+  implied_over_link link activated ends new active free =
       let fits =
       duration_fits (activated + unsigned_abs link.low) (activated + unsigned_abs link.high) moment (why.TooSoon point (activated + unsigned_abs link.low))
       (why.Overdue point (activated + unsigned_abs link.high)) (nat_lt moment (activated + unsigned_abs link.low)) (nat_lt (activated + unsigned_abs link.high) moment) refl refl free in
@@ -68,7 +69,7 @@ module _ (setting : Setting) (moments : Moments) (moment : ℕ) (point : PointId
     where
       by_before : (link : Link) (activated : ℕ) → link_to setting point ≡ Some link → moment_of moments point ≡ None → moment_of moments link.from ≡ Some activated → (b : Bool)
           → option_map_or (refusal_of_duration moment point link) (if b then Some activated else None) (Some (why.NotActive point)) ≡ None → CompletesInTime setting moments moment point
-      by_before link activated ends new active true free = over_link link activated ends new active free
+      by_before link activated ends new active true free = implied_over_link link activated ends new active free
       by_before link activated ends new active false free = absurd (cc)
 
       by_active : (link : Link) → link_to setting point ≡ Some link → moment_of moments point ≡ None → (a : Option ℕ) → moment_of moments link.from ≡ a
@@ -140,7 +141,7 @@ module _ (setting : Setting) (moments : Moments) (moment : ℕ) where
   late_overdue point late =
       ap (λ (o : Option ℕ). option_map_or (λ latest. nat_le latest moment) o false) (latest_is point late) ∙ le-leb (late.activated + unsigned_abs late.link.high) moment late.reached
 
-  -- where none is late, none is overdue
+  -- if none is late, none is overdue
   none_late_free : ((point : PointId) → IsLate setting moments moment point → ⊥) → first_overdue setting moments moment ≡ None
   none_late_free none = by (find (is_overdue setting moments moment) (points_of setting)) refl
     where
@@ -150,7 +151,7 @@ module _ (setting : Setting) (moments : Moments) (moment : ℕ) where
           let passes : is_overdue setting moments moment point ≡ true = (find_some (is_overdue setting moments moment) (points_of setting) point found).passes in
           absurd (none point (late_from point passes))
 
-  -- and where none is overdue, no point is late
+  -- and if none is overdue, no point is late
   free_none_late : first_overdue setting moments moment ≡ None → (point : PointId) → point.0 < length setting.dispatch → IsLate setting moments moment point → ⊥
   free_none_late free point inside late = by (find (is_overdue setting moments moment) (points_of setting)) refl
     where
@@ -272,9 +273,9 @@ module _ (net : Plan) (setting : Setting) (links : setting.links ≡ net.links) 
 
 -- ---- a feed
 -- what comes of the moments after the completions of a moment, or of their refusal
-abbrev onward : Execution → (moment : ℕ) → Result Moments Why → Result Moments Why
-onward execution moment (Ok moments) = none_overdue execution.setting moment moments
-onward execution moment (Err cause) = Err cause
+abbrev continued : Execution → (moment : ℕ) → Result Moments Why → Result Moments Why
+continued execution moment (Ok moments) = none_overdue execution.setting moment moments
+continued execution moment (Err cause) = Err cause
 
 module _ (net : Plan) (execution : Execution) (of : IsExecutionOf net execution) (moment : ℕ) (listed : List PointId) where
   long_before : length (moments_before execution moment) ≡ length net.points
@@ -286,17 +287,17 @@ module _ (net : Plan) (execution : Execution) (of : IsExecutionOf net execution)
   link_point : (point : PointId) (link : Link) → link_to execution.setting point ≡ Some link → IsPoint net point
   link_point = link_to_is_point net execution.setting of.links of.instant.sound
 
-  now_listed : (point : PointId) → IsPoint net point → is_among listed point ≡ true → moment_of (with_completed execution moment listed) point ≡ Some moment
+  now_listed : (point : PointId) → IsPoint net point → contains_point listed point ≡ true → moment_of (with_completed execution moment listed) point ≡ Some moment
   now_listed point within among = let long = long_before in moment_listed moment (moments_before execution moment) listed point (omega arith) among
 
-  as_before : (point : PointId) → is_among listed point ≡ false → moment_of (with_completed execution moment listed) point ≡ moment_of (moments_before execution moment) point
+  as_before : (point : PointId) → contains_point listed point ≡ false → moment_of (with_completed execution moment listed) point ≡ moment_of (moments_before execution moment) point
   as_before point not_listed = moment_not_listed moment (moments_before execution moment) listed point not_listed
 
   -- after completions in time no point is late
   none_late : IsInTime execution moment listed → (point : PointId) → IsLate execution.setting (with_completed execution moment listed) moment point → ⊥
-  none_late timely point late = by (is_among listed point) refl (is_among listed late.link.from) refl
+  none_late timely point late = by (contains_point listed point) refl (contains_point listed late.link.from) refl
     where
-      by : (a : Bool) → is_among listed point ≡ a → (b : Bool) → is_among listed late.link.from ≡ b → ⊥
+      by : (a : Bool) → contains_point listed point ≡ a → (b : Bool) → contains_point listed late.link.from ≡ b → ⊥
       by true among b is = none-some moment (sym late.is_open ∙ now_listed point (link_point point late.link late.ends) among)
       by false not_listed true among =
           let sound = link_sound point late.link late.ends in
@@ -318,7 +319,7 @@ module _ (net : Plan) (execution : Execution) (of : IsExecutionOf net execution)
       ap (λ (b : Bool). if b then option_map why.NotLater execution.last else if nat_lt most_moment moment then Some why.MomentLimit else none) not_before
       ∙ ap (λ (b : Bool). if b then Some why.MomentLimit else none) not_beyond in
       ap (λ (o : Option Why). option_map_or Err o (completed_in execution moment listed)) free
-      ∙ ap (onward execution moment) (taken_if net execution.setting of.links of.instant.sound moment (moments_before execution moment) listed long_before timely.once timely.completes)
+      ∙ ap (continued execution moment) (taken_if net execution.setting of.links of.instant.sound moment (moments_before execution moment) listed long_before timely.once timely.completes)
       ∙ ap (λ (o : Option Why). option_map_or Err o (Ok after)) (none_late_free execution.setting after moment (none_late timely))
 
   later_from : refusal_of_moment execution moment ≡ None → next_moment execution ≤ moment
@@ -338,9 +339,9 @@ module _ (net : Plan) (execution : Execution) (of : IsExecutionOf net execution)
     where
       none_left : (point : PointId) (link : Link) (activated : ℕ) → link_to execution.setting point ≡ Some link → moment_of (moments_before execution moment) point ≡ None
           → moment_of (moments_before execution moment) link.from ≡ Some activated → activated + unsigned_abs link.high ≤ moment → Contains listed point
-      none_left point link activated ends new active reached = by (is_among listed point) refl (is_among listed link.from) refl
+      none_left point link activated ends new active reached = by (contains_point listed point) refl (contains_point listed link.from) refl
         where
-          by : (a : Bool) → is_among listed point ≡ a → (b : Bool) → is_among listed link.from ≡ b → Contains listed point
+          by : (a : Bool) → contains_point listed point ≡ a → (b : Bool) → contains_point listed link.from ≡ b → Contains listed point
           by true among b is = from_among listed point among
           by false not_listed true among =
               let its = All-contains (CompletesInTime execution.setting (moments_before execution moment) moment) listed link.from took.completes (from_among listed link.from among) in
@@ -361,7 +362,7 @@ module _ (net : Plan) (execution : Execution) (of : IsExecutionOf net execution)
       by_overdue made later are None free took = let same : made ≡ after = cc in (in_time_of made later are free, sym same ∙ are.are)
 
       by_taken : next_moment execution ≤ moment → (r : Result Moments Why) → completions_taken execution.setting (moments_before execution moment) moment listed ≡ r
-          → onward execution moment r ≡ Ok after
+          → continued execution moment r ≡ Ok after
           → IsInTime execution moment listed × (after ≡ with_completed execution moment listed)
       by_taken later (Err cause) is took = absurd (cc)
       by_taken later (Ok made) is took =

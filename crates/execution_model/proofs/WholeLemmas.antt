@@ -1,5 +1,4 @@
--- Where every contingent point has completed and no moment brings an act, every point has come: by the order of the table, from first
--- to last.
+-- If every contingent point has completed and no moment brings an act, every point has come: by the order of the table, from first to last.
 use Rattle.std.proofs.Common.{◌≡◌, ◌⊎◌, ℕ, zero, suc, ◌+◌, ◌<◌, ◌≤◌, ℤ, pos, Bool, true, false, List, [], ◌∷◌, length, get_or, Option, Some, None, is_some, refl, ap, sym, subst, ◌∙◌, inl, inr, arith}
 use Rattle.std.specs.Prelude.{◌&&◌, ◌||◌, ◌-ℤ◌, ◌≤ℤ◌, ◌<ℤ◌, nat_le, int_lt, slice_get, unsigned_abs, IsSome}
 use Rattle.std.specs.Int.{int_max}
@@ -28,7 +27,7 @@ use Rattle.strategy_model.proofs.KindLemmas.{Ending, kind}
 use Rattle.dispatch_net.specs.Dispatchable.{MayDispatch, dispatchable, conditions_at}
 use Rattle.dispatch_net.specs.declared.dispatch.Conditions.{Conditions}
 use Rattle.dispatch_net.specs.Laws.{AreExact}
-use Rattle.dispatch_net.proofs.ExactLemmas.{lists_are_exact}
+use Rattle.dispatch_net.proofs.ExactLemmas.{law_lists_are_exact}
 use Rattle.dispatch_net.proofs.ExecutionLemmas.{point_count, dispatchable_length}
 use Rattle.net_model.specs.Moments.{Moments, moment_of}
 use Rattle.execution_model.specs.Execution.{has_come, has_gone_by, meets_bound, meets_wait_for, meets_wait, meets, is_due, acts_at}
@@ -70,7 +69,7 @@ below_too : (w v : ℤ) → w ≤ℤ v → v <ℤ pos 0 → w <ℤ pos 0
 below_too w v less below = grind (arith, ints)
 
 module _ (net : Plan) (table : Graph) (order : List PointId) (plan : IsPlan net) (sound : IsGraph table) (may : MayDispatch net table order) where
-  -- a negative ordinary edge goes from one point to the other
+  -- a negative ordinary edge leads from one point to the other
   goes_by : (from to : PointId) (v : ℤ) → v <ℤ pos 0 → HasAtMost table (record { from = from; to = to; label = None; weight = v }) → goes table from to ≡ true
   goes_by from to v below most =
       let (w, is, less) = at_most_gives table (record { from = from; to = to; label = None; weight = v }) most in
@@ -122,7 +121,7 @@ record IsStill (net : Plan) (table : Graph) (order : List PointId) (moments : Mo
 module _ (net : Plan) (table : Graph) (order : List PointId) (moments : Moments) (from : ℕ) (is : IsStill net table order moments from) where
   open is use {plan, sound, may, contingent, still}
 
-  -- a point has come where those have that stand before it by a negative edge
+  -- a point has come if those have that stand before it by a negative edge
   comes_after : (point : PointId) → IsExecutable net point → ((other : PointId) → other.0 < table.shape.points → goes table point other ≡ true → IsSome (moment_of moments other))
       → IsSome (moment_of moments point)
   comes_after point executable earlier = by (moment_of moments point) refl
@@ -131,7 +130,7 @@ module _ (net : Plan) (table : Graph) (order : List PointId) (moments : Moments)
       conditions = conditions_at (dispatchable net table) point
 
       exact : AreExact table point conditions
-      exact = (lists_are_exact net table point may.for_network sound executable.0).0 executable
+      exact = (law_lists_are_exact net table point may.for_network sound executable.0).0 executable
 
       bound_come : (bound : PointId × ℤ) → Contains conditions.lower_bounds bound → IsSome (moment_of moments bound.0)
       bound_come bound listed =
@@ -195,14 +194,14 @@ module _ (net : Plan) (table : Graph) (order : List PointId) (moments : Moments)
               elim (cases_lt j k) [
                 | inl less ↦ rest other j (omega (arith, less, low)) within there
                 | inr not_less ↦
-                    (let stays : goes table (get_or order k point) (get_or order j point) ≡ false = may.ordered.falls k j point not_less within in
+                    (let stays : goes table (get_or order k point) (get_or order j point) ≡ false = may.ordered.descends k j point not_less within in
                     let one : get_or order j point ≡ other = get_or_default order j point other within ∙ there in
                     let same : goes table point other ≡ false = (λ i. goes table (sym at i) (sym one i)) ∙ stays in
                     absurd (true≢false (sym went ∙ same)))
               ]
 
-pub no_acts_left_is_whole : NoActsLeftIsWhole
-no_acts_left_is_whole net table order moments from instant sound may long contingent still =
+pub law_no_acts_left_is_whole : NoActsLeftIsWhole
+law_no_acts_left_is_whole net table order moments from instant sound may long contingent still =
     all_come moments (λ point inside.
     let count = point_count net table may.for_network in
     let (k, low, at) = may.ordered.whole point (omega arith) in

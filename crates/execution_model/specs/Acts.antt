@@ -6,12 +6,12 @@ use Rattle.strategy_model.specs.Control.{IsEarliest}
 use Rattle.strategy_model.specs.Plays.{points_of}
 use Rattle.strategy_model.specs.Situations.{moment_in}
 use Rattle.closure_model.specs.Tables.{Graph}
-use Rattle.execution_model.specs.Feeding.{Execution, started, next_moment, taken, after_feed, IsWhole}
+use Rattle.execution_model.specs.Feeds.{Execution, started, next_moment, taken, after_feed, IsWhole}
 use Rattle.net_model.specs.Moments.{Moments}
 use Rattle.execution_model.specs.Laws.{IsDispatchedByClosure, setting_of, going_on, ended}
 use Rattle.execution_model.specs.Streams.{Listing, Shows}
 use Rattle.execution_model.specs.Timely.{fed_all}
-use Rattle.execution_model.specs.declared.feeding.Act.{Act}
+use Rattle.execution_model.specs.declared.feed_answers.Act.{Act}
 
 -- a schedule executes a point at a moment
 abbrev pub executes_at : Plan → List ℕ → (moment : ℕ) → PointId → Bool

@@ -1,5 +1,4 @@
--- What feeds come to: the first refusal comes exactly where a stream stops being faithful, and the moments are those of the earliest
--- schedule.
+-- What feeds come to: the first refusal comes exactly when a stream stops being faithful, and the moments are those of the earliest schedule.
 use Rattle.std.specs.Prelude.{◌≡◌, ◌↔◌, ℕ, ◌≤◌, true, false, IsSome, List, [], map, Some, None, Ok, length}
 use Rattle.std.specs.List.{All}
 use Rattle.net_model.specs.Network.{Plan, IsPlan, IsContingent}
@@ -13,7 +12,7 @@ use Rattle.dispatch_net.specs.Dispatchable.{MayDispatch, dispatchable}
 use Rattle.net_model.specs.Moments.{Moments, moment_of}
 use Rattle.execution_model.specs.Execution.{Setting, acts_at}
 use Rattle.net_model.specs.Limits.{most_moment}
-use Rattle.execution_model.specs.Feeding.{Execution, started, taken, first_open, IsWhole}
+use Rattle.execution_model.specs.Feeds.{Execution, started, taken, first_open, IsWhole}
 use Rattle.execution_model.specs.Streams.{Listing, Stream, Shows, IsFaithful, fixed_by, IsExecution}
 use Rattle.execution_model.specs.Timely.{IsInTime, with_completed, AreInTime, fed_all}
 
@@ -38,11 +37,11 @@ pub record IsExecutionOf (net : Plan) (execution : Execution) : Type 0 where
   pub dispatch : length execution.setting.dispatch ≡ length net.points
   pub moments : length execution.moments ≡ length net.points
 
--- a stream that goes on
+-- a stream of these listings, which continues
 abbrev pub going_on : List Listing → Stream
 going_on listings = record { listings = listings; done = false }
 
--- the same stream, said to be done
+-- a stream of these listings, said to be done
 abbrev pub ended : List Listing → Stream
 ended listings = record { listings = listings; done = true }
 
@@ -50,15 +49,15 @@ ended listings = record { listings = listings; done = true }
 abbrev pub AreWithinLimit : List Listing → Type 0
 AreWithinLimit listings = All (λ (listing : Listing). listing.moment ≤ most_moment) listings
 
--- a feed within the limit is taken exactly where its completions are in time, and then they are the moments that are new
+-- a feed within the limit is taken exactly if its completions are in time, and then they are the moments that are new
 abbrev pub FeedsAreTakenInTime : Type 0
 FeedsAreTakenInTime =
     (net : Plan) (execution : Execution) (moment : ℕ) (listed : List PointId) → IsExecutionOf net execution → moment ≤ most_moment
     → (IsInTime execution moment listed ↔ (taken execution moment listed ≡ Ok (with_completed execution moment listed)))
     × ((moments : Moments) → taken execution moment listed ≡ Ok moments → moments ≡ with_completed execution moment listed)
 
--- from the start of a network that is dispatched by its closure, the feeds of a list are all taken exactly where the list is a faithful
--- stream that goes on, and exactly where each is in time
+-- from the start of a network that is dispatched by its closure, the feeds of a list are all taken exactly if the list is a faithful stream that continues, and
+-- exactly if each is in time
 abbrev pub FaithfulStreamsAreTaken : Type 0
 FaithfulStreamsAreTaken =
     (net : Plan) (table : Graph) (order : List PointId) (listings : List Listing) → IsDispatchedByClosure net table order → AreWithinLimit listings
@@ -73,7 +72,7 @@ FeedsExecuteEarliest =
     → IsEarliest net situation schedule → Shows net (going_on listings) schedule
     → execution.moments ≡ fixed_by (going_on listings) schedule
 
--- the stream may be said to be done exactly where no contingent point is open
+-- the stream may be said to be done exactly if no contingent point is open
 abbrev pub DoneWhereNoneIsOpen : Type 0
 DoneWhereNoneIsOpen =
     (net : Plan) (table : Graph) (order : List PointId) (listings : List Listing) (execution : Execution) → IsDispatchedByClosure net table order
@@ -92,15 +91,14 @@ abbrev pub ExecutionsAreOne : Type 0
 ExecutionsAreOne =
     (net : Plan) (stream : Stream) (first second : Moments) → IsInstant net → IsExecution net stream first → IsExecution net stream second → first ≡ second
 
--- and feeds that are all taken make it, up to the last moment, and whole at the end where no contingent point is open
+-- and feeds that are all taken make it, up to the last moment, and whole at the end if no contingent point is open
 abbrev pub StreamsAreExecuted : Type 0
 StreamsAreExecuted =
     (net : Plan) (table : Graph) (order : List PointId) (listings : List Listing) (execution : Execution) → IsDispatchedByClosure net table order
     → fed_all (started (setting_of net table)) listings ≡ Ok execution → IsExecution net (going_on listings) execution.moments
     × (first_open execution ≡ None → (after : Execution) → IsWhole execution after → IsExecution net (ended listings) after.moments)
 
--- where a network is dispatched by a table in an order, every contingent point has completed and no moment brings an act, every point
--- has come
+-- if a network is dispatched by a table in an order, every contingent point has completed and no moment brings an act, every point has come
 abbrev pub NoActsLeftIsWhole : Type 0
 NoActsLeftIsWhole =
     (net : Plan) (table : Graph) (order : List PointId) (moments : Moments) (from : ℕ) → IsInstant net → IsGraph table → MayDispatch net table order

@@ -1,5 +1,5 @@
 pub mod Execution
-pub mod Feeding
+pub mod Feeds
 pub mod Streams
 pub mod Timely
 pub mod Laws

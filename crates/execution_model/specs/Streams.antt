@@ -1,5 +1,5 @@
--- Streams of completions: when a stream is faithful, and what its execution is. Only schedules and strategies are spoken of here.
--- (Dynamic execution over observed completions: Morris, Muscettola and Vidal 2001.)
+-- Streams of completions: when a stream is faithful, and what its execution is. Only schedules and strategies occur here. (Dynamic execution over observed
+-- completions: Morris, Muscettola and Vidal 2001.)
 use Rattle.std.specs.Prelude.{◌≡◌, ◌⊎◌, ℕ, ◌<◌, ◌≤◌, nat_le, Bool, false, IsTrue, List, map, fold, Option, Some, None, if◌then◌else◌}
 use Rattle.std.specs.List.{All, AllPairs, Contains, IsDistinct}
 use Rattle.std.specs.Option.{option_map_or}
@@ -31,8 +31,8 @@ pub record IsListed (stream : Stream) (point : PointId) (moment : ℕ) : Type 0 
 abbrev pub HasGoneBy : Stream → (moment : ℕ) → Type 0
 HasGoneBy stream moment = IsTrue stream.done ⊎ ((listing : Listing) × Contains stream.listings listing × (moment ≤ listing.moment))
 
--- a stream shows the completions of a schedule: its moments rise, each point is listed once, at its moment, and up to the stream's last
--- moment, or altogether where it is done, every contingent point is listed
+-- a stream shows the completions of a schedule: its moments rise, each point is listed once, at its moment, and up to the stream's last moment, or altogether
+-- if it is done, every contingent point is listed
 pub record Shows (net : Plan) (stream : Stream) (schedule : List ℕ) : Type 0 where
   pub rises : AllPairs (λ earlier later. earlier.moment < later.moment) stream.listings
   pub once : All (λ (listing : Listing). IsDistinct same_point listing.points) stream.listings
@@ -40,14 +40,14 @@ pub record Shows (net : Plan) (stream : Stream) (schedule : List ℕ) : Type 0 w
   pub complete : (point : PointId) → IsContingent net point → HasGoneBy stream (moment_in schedule point) → IsListed stream point (moment_in schedule point)
 
 -- a stream fits a situation: it shows the completions of the earliest schedule of it
-pub record Fits (net : Plan) (stream : Stream) (situation : List ℕ) : Type 0 where
+pub record FitsSituation (net : Plan) (stream : Stream) (situation : List ℕ) : Type 0 where
   pub schedule : List ℕ
   pub earliest : IsEarliest net situation schedule
   pub shows : Shows net stream schedule
 
--- a stream is faithful where it fits some situation
+-- a stream is faithful if it fits some situation
 abbrev pub IsFaithful : Plan → Stream → Type 0
-IsFaithful net stream = (situation : List ℕ) × Fits net stream situation
+IsFaithful net stream = (situation : List ℕ) × FitsSituation net stream situation
 
 -- the last moment of a stream
 abbrev pub last_moment : Stream → Option ℕ
@@ -57,12 +57,12 @@ last_moment stream = fold (λ before (listing : Listing). Some listing.moment) N
 abbrev pub cut_at : Option ℕ → List ℕ → Moments
 cut_at last schedule = map (λ moment. if option_map_or (nat_le moment) last false then Some moment else None) schedule
 
--- what a stream fixes of a schedule: its moments up to the stream's last, or the whole of it where the stream is done
+-- what a stream fixes of a schedule: its moments up to the stream's last, or the whole of it if the stream is done
 abbrev pub fixed_by : Stream → List ℕ → Moments
 fixed_by stream schedule = if stream.done then map Some schedule else cut_at (last_moment stream) schedule
 
 -- the execution of a stream: the earliest schedule of a situation that it fits, as far as the stream fixes it
 pub record IsExecution (net : Plan) (stream : Stream) (moments : Moments) : Type 0 where
   pub situation : List ℕ
-  pub fits : Fits net stream situation
+  pub fits : FitsSituation net stream situation
   pub fixed : moments ≡ fixed_by stream fits.schedule

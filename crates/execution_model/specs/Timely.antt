@@ -6,9 +6,9 @@ use Rattle.net_model.specs.declared.part.Link.{Link}
 use Rattle.strategy_model.specs.Plays.{same_point}
 use Rattle.net_model.specs.Moments.{Moments, moment_of}
 use Rattle.execution_model.specs.Execution.{Setting, link_to}
-use Rattle.execution_model.specs.Feeding.{Execution, next_moment, moments_before, completed_at, taken, after_feed}
+use Rattle.execution_model.specs.Feeds.{Execution, next_moment, moments_before, completed_at, taken, after_feed}
 use Rattle.execution_model.specs.Streams.{Listing}
-use Rattle.execution_model.specs.declared.feeding.Why.{Why}
+use Rattle.execution_model.specs.declared.feed_answers.Why.{Why}
 
 -- a point completes at a moment, neither too soon nor too late after the activation of its link
 pub record CompletesInTime (setting : Setting) (moments : Moments) (moment : ℕ) (point : PointId) : Type 0 where
@@ -38,7 +38,8 @@ with_completed execution moment listed = fold (λ moments point. completed_at mo
 abbrev pub AreInTime : Execution → List Listing → Type 0
 AreInTime execution [] = Unit {0}
 AreInTime execution (listing ∷ others) =
-    IsInTime execution listing.moment listing.points × AreInTime (after_feed execution listing.moment (with_completed execution listing.moment listing.points)) others
+    IsInTime execution listing.moment listing.points × AreInTime (after_feed execution listing.moment (with_completed execution listing.moment listing.points))
+    others
 
 -- the execution after a list of feeds, or the first refusal
 abbrev pub fed_all : Execution → List Listing → Result Execution Why

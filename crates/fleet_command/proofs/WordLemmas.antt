@@ -1,11 +1,11 @@
 -- The words of `fleet` are none.
 use Rattle.std.proofs.Common.{◌≡◌, ◌↔◌, List, [], ◌∷◌, Some, refl, ap, ◌∙◌}
-use Rattle.command_words.specs.Spelling.{Use, flag, valued, operand, Says}
+use Rattle.command_words.specs.SpelledWords.{Use, flag, valued, operand, Says}
 use Rattle.command_words.specs.Syntax.{Text}
-use Rattle.command_frame.specs.Requests.{asked_by}
-use Rattle.command_frame.proofs.WorkersLemmas.{asks, meant}
-use Rattle.fleet_command.specs.FleetCommand.{fleet_asked, fleet_syntax}
-use Rattle.fleet_command.specs.declared.beginning.AskFleet.{AskFleet}
+use Rattle.command_contracts.specs.Requests.{requested_by}
+use Rattle.command_contracts.proofs.WorkersLemmas.{asks, meant}
+use Rattle.fleet_command.specs.FleetCommand.{fleet_request, fleet_syntax}
+use Rattle.fleet_command.specs.declared.fleet_question.FleetQuestion.{FleetQuestion}
 
 no_words : (words : List Text) (uses : List Use) → Says fleet_syntax words uses → words ≡ []
 no_words words [] says = says.spelled
@@ -16,11 +16,11 @@ no_words words (operand name text ∷ uses) says = absurd (cc (says.known.0))
 says_none : Says fleet_syntax [] []
 says_none = record { spelled = refl; known = tt; once = refl; operands = refl }
 
-pub fleet_exactly : (words : List Text) (asked : AskFleet) → asked_by fleet_syntax fleet_asked words ≡ Some asked ↔ words ≡ []
-fleet_exactly words asked = (to, from)
+pub fleet_exactly : (words : List Text) (query : FleetQuestion) → requested_by fleet_syntax fleet_request words ≡ Some query ↔ words ≡ []
+fleet_exactly words query = (to, from)
   where
-    to : asked_by fleet_syntax fleet_asked words ≡ Some asked → words ≡ []
-    to is = let means = meant fleet_syntax refl fleet_asked words asked is in no_words words means.0 means.1
+    to : requested_by fleet_syntax fleet_request words ≡ Some query → words ≡ []
+    to is = let means = meant fleet_syntax refl fleet_request words query is in no_words words means.0 means.1
 
-    from : words ≡ [] → asked_by fleet_syntax fleet_asked words ≡ Some asked
-    from none = ap (asked_by fleet_syntax fleet_asked) none ∙ asks fleet_syntax refl fleet_asked [] [] says_none
+    from : words ≡ [] → requested_by fleet_syntax fleet_request words ≡ Some query
+    from none = ap (requested_by fleet_syntax fleet_request) none ∙ asks fleet_syntax refl fleet_request [] [] says_none

@@ -5,9 +5,9 @@ use Rattle.texts.specs.Limits.{most_line}
 use Rattle.texts.specs.Words.{words, are_passed_over}
 use Rattle.net_model.specs.declared.format.FormatKind.TheVariants.{NoHeader}
 use Rattle.command_engine.specs.Grammars.{Grammar, Next, Line, NoLine, number_after}
-use Rattle.command_engine.specs.Reading.{Reader}
-use Rattle.command_engine.specs.declared.reading.Step.{Step}
-use Rattle.command_engine.specs.declared.reading.Step.TheVariants.{Goes, Gives, Refused}
+use Rattle.command_engine.specs.Readers.{Reader}
+use Rattle.command_engine.specs.declared.line_texts.Parse.{Parse}
+use Rattle.command_engine.specs.declared.line_texts.Parse.TheVariants.{Continue, Parsed, Refused}
 use Rattle.common_answers.specs.Faults.{stop_fault}
 use Rattle.common_answers.specs.declared.faults.Fault.{Fault}
 use Rattle.common_answers.specs.declared.faults.Fault.TheVariants.{Format}
@@ -23,9 +23,9 @@ are_header (first ∷ second ∷ []) = bytes_eq first (codes "fleet") && bytes_e
 are_header others = false
 
 -- what a line brings
-abbrev pub header_step : FleetHeader → ℕ → List (List ℕ) → Step FleetHeader Nothing Fault
+abbrev pub header_step : FleetHeader → ℕ → List (List ℕ) → Parse FleetHeader Nothing Fault
 header_step header number spelled =
-    if are_passed_over spelled then Goes header else if are_header spelled then Gives tt else Refused (Format number NoHeader)
+    if are_passed_over spelled then Continue header else if are_header spelled then Parsed tt else Refused (Format number NoHeader)
 
 -- the reader of headers
 abbrev pub header_reader : Reader FleetHeader Nothing Fault
@@ -36,8 +36,8 @@ header_reader = record {
 }
 
 -- before the first line
-abbrev pub header_begun : FleetHeader
-header_begun = record {}
+abbrev pub initial_header : FleetHeader
+initial_header = record {}
 
 -- ---- the grammar
 -- these lines are passed over
@@ -47,10 +47,10 @@ PassOver (line ∷ lines) = (are_passed_over (words line) ≡ true) × PassOver 
 
 -- the first line that is not passed over is the header
 pub record IsHeader (lines : List (List ℕ)) (rest : List (List ℕ)) : Type 0 where
-  pub front : List (List ℕ)
+  pub prefix : List (List ℕ)
   pub last : List ℕ
-  pub whole : lines ≡ front ++ last ∷ rest
-  pub over : PassOver front
+  pub whole : lines ≡ prefix ++ last ∷ rest
+  pub over : PassOver prefix
   pub no_remark : are_passed_over (words last) ≡ false
   pub is : are_header (words last) ≡ true
 
@@ -59,7 +59,7 @@ abbrev pub IsHeaderFault : ℕ → Next → Fault → Type 0
 IsHeaderFault number (Line line) fault = (are_passed_over (words line) ≡ false) × (are_header (words line) ≡ false) × (Format number NoHeader ≡ fault)
 IsHeaderFault number (NoLine stop) fault = stop_fault number stop NoHeader ≡ fault
 
--- the grammar, where so many lines stand before it in the input
+-- the grammar, if so many lines stand before it in the input
 abbrev pub header_texts : ℕ → Grammar Nothing Fault
 header_texts past = record {
   declares = λ lines value rest. IsHeader lines rest;

@@ -1,7 +1,7 @@
 -- What `fleet` promises: of each plan what `run` promises of that plan and its own lines alone.
 use Rattle.std.specs.Prelude.{◌≡◌, ◌⊎◌, ℕ, ◌+◌, List, [], ◌++◌, Some, length, slice_get}
 use Rattle.texts.specs.Lines.{InputLine, input_lines}
-use Rattle.texts.specs.Printing.{printed_line}
+use Rattle.texts.specs.PrintedLines.{printed_line}
 use Rattle.net_model.specs.Network.{Plan}
 use Rattle.net_model.specs.ShownForm.{shown_form}
 use Rattle.net_model.specs.declared.format.FormatKind.TheVariants.{NoEnd}
@@ -9,33 +9,33 @@ use Rattle.strategy_model.specs.Control.{IsControllable}
 use Rattle.command_engine.specs.Inputs.{AnswersText, IsFirstRefusal}
 use Rattle.command_engine.specs.Limits.{most_input}
 use Rattle.command_engine.specs.Phases.{FollowsOutcome}
-use Rattle.command_engine.specs.Reading.{Given}
+use Rattle.command_engine.specs.Readers.{Given}
 use Rattle.command_engine.specs.declared.endings.End.{End}
 use Rattle.command_engine.specs.declared.endings.End.TheVariants as ends
-use Rattle.merged_runs.specs.Beginning.{Start, begun_put}
-use Rattle.merged_runs.specs.Naming.{named, of_name}
-use Rattle.merged_runs.specs.Projection.{own_lines}
-use Rattle.merged_runs.specs.Runs.{as_input, idles}
-use Rattle.event_execution.specs.Course.{Course}
-use Rattle.event_execution.specs.Day.{Opening}
-use Rattle.event_execution.specs.ExecutionPromise.{ExecutionPromise, PutsLast}
-use Rattle.event_execution.specs.Executing.{executing_machine}
-use Rattle.event_execution.specs.Handing.{as_named}
+use Rattle.multiplexed_commands.specs.Starts.{Start, starts_put}
+use Rattle.multiplexed_commands.specs.NamedLines.{named, of_name}
+use Rattle.multiplexed_commands.specs.Projection.{own_lines}
+use Rattle.multiplexed_commands.specs.Runs.{as_input, idles}
+use Rattle.event_phase.specs.EventRuns.{EventRun}
+use Rattle.event_phase.specs.Day.{Preamble}
+use Rattle.event_phase.specs.ExecutionPromise.{ExecutionPromise, PutsLast}
+use Rattle.event_phase.specs.EventPhase.{executing_machine}
+use Rattle.event_phase.specs.CompletionOrders.{as_named}
 use Rattle.common_answers.specs.Faults.{refusing, fault_line, fault_end}
 use Rattle.common_answers.specs.VerdictLines.{refuted_line}
 use Rattle.common_answers.specs.declared.faults.Fault.{Fault}
 use Rattle.common_answers.specs.declared.faults.Fault.TheVariants.{Format}
-use Rattle.command_frame.specs.Programs.{Program, or_nothing, serves}
-use Rattle.plan_inputs.specs.PlanInput.{in_notation, input_reader}
-use Rattle.plan_inputs.specs.declared.plan_input.Notation.TheVariants.{Text}
-use Rattle.run_command.specs.Running.{run_begins, without_feeders}
-use Rattle.fleet_command.specs.FleetCauses.{HasLineFault, IsClosed, IsServed, fleet_causes}
+use Rattle.command_contracts.specs.Programs.{Program, or_nothing, serves}
+use Rattle.input_texts.specs.PlanInput.{in_notation, input_reader}
+use Rattle.input_texts.specs.declared.plan_input.Notation.TheVariants.{Text}
+use Rattle.run_command.specs.RunCommand.{run_begins, without_feeders}
+use Rattle.fleet_command.specs.FleetCauses.{HasLineFault, IsClosedInput, IsServed, fleet_causes}
 use Rattle.fleet_command.specs.FleetCommand.{BeginEach, fleet_machine, fleet_start, refusal_words}
 use Rattle.fleet_command.specs.FleetHeader.{Nothing}
 use Rattle.fleet_command.specs.FleetText.{Plans, fleet_in}
-use Rattle.fleet_command.specs.declared.beginning.AskFleet.{AskFleet}
-use Rattle.fleet_command.specs.declared.planned.Planned.{Planned}
-use Rattle.fleet_command.specs.declared.planned.Planned.TheVariants.{Network, Refused}
+use Rattle.fleet_command.specs.declared.fleet_question.FleetQuestion.{FleetQuestion}
+use Rattle.fleet_command.specs.declared.plan_or_refusal.PlanOrRefusal.{PlanOrRefusal}
+use Rattle.fleet_command.specs.declared.plan_or_refusal.PlanOrRefusal.TheVariants.{Network, Refused}
 
 -- ---- one plan and its own lines, alone
 -- What `run` puts after it has read this network, for these lines of events as all that follow, numbered from 1; and how it ends.
@@ -51,9 +51,9 @@ AnswersAs lines said put end =
     ⊎ ((others : List (List ℕ)) × (said ≡ put ++ idles others))
 
 -- a network and its own lines open its execution, from the first of them on; nothing is put before
-abbrev pub own_opens : Plan → Opening
+abbrev pub own_opens : Plan → Preamble
 own_opens net = record {
-  handing = as_named;
+  completion_order = as_named;
   opens = λ used rest other before. (used ≡ []) × (other ≡ shown_form net) × (before ≡ []);
 }
 
@@ -66,7 +66,7 @@ pub record IsRunAlone (net : Plan) (lines : List (List ℕ)) (said : List ℕ) :
   pub promise : ExecutionPromise (own_opens net) (as_input lines) put end
 
 -- what a plan and its own lines are answered, without its name
-abbrev pub IsAlone : Planned → List (List ℕ) → List ℕ → Type 0
+abbrev pub IsAlone : PlanOrRefusal → List (List ℕ) → List ℕ → Type 0
 IsAlone (Network net) lines said =
     (IsControllable net × IsRunAlone net lines said) ⊎ ((¬ IsControllable net) × (said ≡ refuted_line ++ idles lines))
 IsAlone (Refused why) lines said = said ≡ printed_line (refusal_words why) ++ idles lines
@@ -74,29 +74,29 @@ IsAlone (Refused why) lines said = said ≡ printed_line (refusal_words why) ++ 
 -- of all that was put for plans and lines after `go`, what begins with the name of a plan is that, each line after its name
 abbrev pub EachAlone : Plans → List InputLine → List ℕ → Type 0
 EachAlone plans lines put =
-    (place : ℕ) (name : List ℕ) (planned : Planned) → slice_get plans place ≡ Some (name, planned)
-    → (said : List ℕ) × (of_name name put ≡ named name said) × IsAlone planned (own_lines name lines) said
+    (place : ℕ) (name : List ℕ) (plan_or_refusal : PlanOrRefusal) → slice_get plans place ≡ Some (name, plan_or_refusal)
+    → (said : List ℕ) × (of_name name put ≡ named name said) × IsAlone plan_or_refusal (own_lines name lines) said
 
 -- ---- the promise
 -- what is put of the plans at `go`, in their order, stands before all else
 abbrev pub OpensFleet : Nothing × Plans → List ℕ → End → Type 0
-OpensFleet text put end = (starts : List (Start Course)) × (more : List ℕ) × BeginEach text.1 starts × (put ≡ begun_put starts ++ more)
+OpensFleet text put end = (starts : List (Start EventRun)) × (more : List ℕ) × BeginEach text.1 starts × (put ≡ starts_put starts ++ more)
 
--- What `fleet` promises. `opens`: it puts how the plans begin that the input declares, or the first refusal of the input. `alone`: after any
--- number of lines each plan was answered as it is alone, whatever comes after. `closes`: at `end` it ends as done, and has put no more than
--- that. `faulty`: it ends by a fault, with its line, where its lines have one. `completes`: only at `end` does it end as done. `faults`:
--- only where the input has a first refusal, or its lines a fault, does it end by one. `never`: in no other way does it end.
+-- What `fleet` promises. `opens`: it puts how the plans begin that the input declares, or the first refusal of the input. `alone`: after any number of lines
+-- each plan was answered as it is alone, whatever comes after. `closes`: at `end` it ends as done, and has put no more than that. `faulty`: it ends by a fault,
+-- with its line, if its lines have one. `completes`: only at `end` does it end as done. `faults`: only if the input has a first refusal, or its lines a fault,
+-- does it end by one. `never`: in no other way does it end.
 pub record FleetPromise (input put : List ℕ) (end : End) : Type 0 where
   pub opens : AnswersText fleet_in refusing OpensFleet input put end
   pub alone : (plans : Plans) (served : IsServed (input_lines input) plans)
       → (said : List ℕ) × (more : List ℕ) × EachAlone plans served.lines said × (put ≡ said ++ more)
-  pub closes : (closed : IsClosed (input_lines input)) → EachAlone closed.plans closed.served.lines put × (end ≡ ends.Done)
+  pub closes : (closed : IsClosedInput (input_lines input)) → EachAlone closed.plans closed.served.lines put × (end ≡ ends.Done)
   pub faulty : (fault : Fault) → HasLineFault (input_lines input) fault → PutsLast (fault_line fault) put × (end ≡ fault_end fault)
-  pub completes : end ≡ ends.Done → IsClosed (input_lines input)
+  pub completes : end ≡ ends.Done → IsClosedInput (input_lines input)
   pub faults : (end ≡ ends.Fault) ⊎ (end ≡ ends.Limit)
       → (fault : Fault) × (IsFirstRefusal fleet_in (input_lines input) fault ⊎ HasLineFault (input_lines input) fault)
   pub never : ¬ ((end ≡ ends.EventRefused) ⊎ (end ≡ ends.Refused))
 
 -- the program of `fleet`
-abbrev pub fleet_program : AskFleet → Program
-fleet_program asked = serves fleet_machine (fleet_start asked) (or_nothing fleet_causes FleetPromise)
+abbrev pub fleet_program : FleetQuestion → Program
+fleet_program query = serves fleet_machine (fleet_start query) (or_nothing fleet_causes FleetPromise)

@@ -1,9 +1,9 @@
 pub mod FleetHeader
-pub mod PlannedText
+pub mod PlanOrRefusals
 pub mod FleetText
-pub mod FrontNames
+pub mod PlanNames
 pub mod FleetStands
 pub mod FleetCommand
-pub mod Dividing
+pub mod PlanDivision
 pub mod FleetCauses
 pub mod FleetPromise

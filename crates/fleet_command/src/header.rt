@@ -2,9 +2,10 @@
 
 ghost use Rattle.std.specs.Prelude.{◌≡◌};
 ghost use Rattle.texts.specs.Words.{words};
-ghost use Rattle.fleet_command.specs.FleetHeader.{are_header, header_begun, header_reader, header_texts};
+ghost use Rattle.fleet_command.specs.FleetHeader.{are_header, initial_header, header_reader};
+ghost use Rattle.fleet_command.specs.FleetHeader.{header_texts};
 
-use command_engine::{InGrammar, Step, Stop, Text};
+use command_engine::{InGrammar, Parse, Stop, Text};
 use common_answers::{Fault, stop_fault};
 use net_model::FormatKind;
 use plan_port::MOST_LINE;
@@ -47,14 +48,14 @@ impl Text for FleetHeader {
         _alloc: Global,
         number: u32,
         line: &[u8],
-    ) -> Result<Step<FleetHeader, (), Fault>, AllocError> {
+    ) -> Result<Parse<FleetHeader, (), Fault>, AllocError> {
         if first_word(line).is_none() {
-            return Ok(Step::Goes(self));
+            return Ok(Parse::Continue(self));
         }
         if is_header(line) {
-            return Ok(Step::Gives(()));
+            return Ok(Parse::Parsed(()));
         }
-        Ok(Step::Refused(Fault::Format(number, FormatKind::NoHeader)))
+        Ok(Parse::Refused(Fault::Format(number, FormatKind::NoHeader)))
     }
 
     fn stop(&self, number: u32, stop: Stop) -> Fault {
@@ -63,7 +64,7 @@ impl Text for FleetHeader {
 }
 
 impl InGrammar for FleetHeader {
-    ghost beginning = { header_begun };
+    ghost initial_text = { initial_header };
 
     ghost grammar = { header_texts };
 

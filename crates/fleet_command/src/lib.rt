@@ -1,22 +1,23 @@
-//! The command `fleet`: many plans, each under a name, executed over one stream of lines, each answered as if it were alone.
+//! The command `fleet`: many plans, each under a name, executed over one stream of lines, each
+//! answered as if it were alone.
 #![tactic(auto)]
 
-mod beginning;
-mod between;
-mod dividing;
 mod entries;
+mod fleet_phase;
+mod fleet_question;
 mod header;
 mod laws;
 mod own_lines;
-mod planned;
+mod plan_division;
+mod plan_or_refusal;
+mod plan_separators;
 mod plans_text;
-mod serving;
 
-pub use beginning::{AskFleet, FleetReading};
-pub use between::PlanLines;
-pub use entries::{Entry, Held};
+pub use entries::{FleetEntry, FleetSlot};
+pub use fleet_phase::Serving;
+pub use fleet_question::{FleetQuestion, FleetReading};
 pub use header::FleetHeader;
-pub use laws::{fleet_is_lawful, fleet_is_read_exactly};
-pub use planned::{KeepRefusal, Planned, PlannedText};
+pub use laws::{law_fleet_is_lawful, law_fleet_is_read_exactly};
+pub use plan_or_refusal::{KeepRefusal, PlanOrRefusal, PlanOrRefusalText};
+pub use plan_separators::PlanSeparators;
 pub use plans_text::{FleetText, Plans, PlansText};
-pub use serving::Serving;

@@ -7,56 +7,58 @@ ghost use Rattle.texts.specs.Limits.{most_line};
 ghost use Rattle.texts.specs.Words.{words, are_passed_over};
 ghost use Rattle.event_stream.specs.EventText.{completed, done};
 ghost use Rattle.plan_fleet.specs.Fleets.{AtPlan, ChangesOne};
-ghost use Rattle.event_execution.specs.Executing.{answer_room};
-ghost use Rattle.merged_runs.specs.Alone.{idle_said};
-ghost use Rattle.fleet_command.specs.FleetStands.{HaveRoom, RunsAt, SaysHeld, SaysLine, SaysTold, idle_room, said_room, stands_held};
-ghost use Rattle.fleet_command.specs.declared.entries.Held.TheVariants.{Opened};
+ghost use Rattle.event_phase.specs.EventPhase.{answer_capacity};
+ghost use Rattle.multiplexed_commands.specs.Alone.{idle_said};
+ghost use Rattle.fleet_command.specs.FleetStands.{HaveCapacity, RunsAt, SlotSays, SaysLine};
+ghost use Rattle.fleet_command.specs.FleetStands.{SaysReported, idle_capacity, said_capacity};
+ghost use Rattle.fleet_command.specs.FleetStands.{slot_stands};
+ghost use Rattle.fleet_command.specs.declared.entries.FleetSlot.TheVariants.{Opened};
 
-use crate::entries::Held;
+use crate::entries::FleetSlot;
 use command_engine::{Answer, Word};
-use event_execution::{put_end, put_fed, refuse_line};
+use event_phase::{put_end, put_fed, refuse_line};
 use event_stream::{Event, EventReader};
 use plan_fleet::{Fleet, FleetFed, FleetFinished, State};
 use texts::first_word;
 
-/// Answers a line of one plan by its number among its own, into the buffer, which is empty: one that runs by its execution, and every other
-/// by `idle`.
+/// Answers a line of one plan by its number among its own, into the buffer, which is empty: one
+/// that runs by its execution, and every other by `idle`.
 pub(crate) fn answer_own(
     fleet: &mut Fleet,
     events: &mut EventReader,
     said: &mut Answer,
-    held: Held,
+    slot: FleetSlot,
     number: u32,
     line: &[u8],
 )
     requires empty { said.old.text ≡ [] }
-    requires placed { (place : _) → held ≡ Opened place → place < length fleet.old }
-    requires room { HaveRoom fleet.old said.old.capacity }
+    requires placed { (place : _) → slot ≡ Opened place → place < length fleet.old }
+    requires spare_capacity { HaveCapacity fleet.old said.old.capacity }
     requires line { length line.now ≤ most_line }
-    ensures says { SaysHeld fleet.old held number line.now said.new.text fleet.new }
-    ensures size { length said.new.text ≤ said_room (stands_held fleet.old held) }
+    ensures says { SlotSays fleet.old slot number line.now said.new.text fleet.new }
+    ensures size { length said.new.text ≤ said_capacity (slot_stands fleet.old slot) }
     ensures capacity { said.old.capacity ≤ said.new.capacity }
 {
-    match held {
-        Held::Opened(place) => {
+    match slot {
+        FleetSlot::Opened(place) => {
             if fleet.state(place) == State::Running {
                 answer_running(fleet, events, said, place, number, line);
             } else {
                 put_idle(said, line);
             }
         }
-        Held::Refused(_) => put_idle(said, line),
+        FleetSlot::Refused(_) => put_idle(said, line),
     }
 }
 
-/// Puts that a plan is idle, where its line is not passed over.
+/// Puts that a plan is idle, if its line is not passed over.
 fn put_idle(said: &mut Answer, line: &[u8])
     requires { said.old.text ≡ [] }
     ensures text { said.new.text ≡ idle_said (are_passed_over (words line.now)) }
-    ensures size { length said.new.text ≤ idle_room }
+    ensures size { length said.new.text ≤ idle_capacity }
     ensures capacity { said.old.capacity ≤ said.new.capacity }
 {
-    said.has_room();
+    said.has_capacity();
     if first_word(line).is_some() {
         said.put_line(&[Word::Text("idle")]);
     }
@@ -74,8 +76,9 @@ fn answer_running(
     requires empty { said.old.text ≡ [] }
     requires runs { RunsAt fleet.old place said.old.capacity }
     requires line { length line.now ≤ most_line }
-    ensures changes { ChangesOne fleet.old place (SaysLine number line.now said.new.text) fleet.new }
-    ensures size { length said.new.text ≤ said_room (stands_held fleet.old (Opened place)) }
+    ensures changes { ChangesOne fleet.old place (SaysLine number line.now said.new.text)
+        fleet.new }
+    ensures size { length said.new.text ≤ said_capacity (slot_stands fleet.old (Opened place)) }
     ensures capacity { said.old.capacity ≤ said.new.capacity }
 {
     match events.read(line, fleet.network(place)) {
@@ -101,11 +104,14 @@ fn feed_plan(
     requires empty { said.old.text ≡ [] }
     requires runs { RunsAt fleet.old place said.old.capacity }
     requires points { AtPlan fleet.old place (λ plan. All (IsPoint plan.net) events.now) }
-    ensures changes { ChangesOne fleet.old place (SaysTold number (completed moment events.now) said.new.text) fleet.new }
-    ensures size { AtPlan fleet.old place (λ plan. length said.new.text ≤ answer_room plan.net) }
+    ensures changes { ChangesOne fleet.old place
+        (SaysReported number (completed moment events.now) said.new.text) fleet.new }
+    ensures size { AtPlan fleet.old place
+        (λ plan. length said.new.text ≤ answer_capacity plan.net) }
     ensures capacity { said.old.capacity ≤ said.new.capacity }
 {
-    // The proof reads here that the plan is sound before the feed, and after it by the same call below.
+    // The proof reads here that the plan is sound before the feed, and after it by the same call
+    // below.
     let _ = fleet.network(place);
     match fleet.feed(place, moment, events.completions()) {
         FleetFed::Fed(fed) => {
@@ -127,8 +133,10 @@ fn feed_plan(
 fn finish_plan(fleet: &mut Fleet, said: &mut Answer, place: u32, number: u32)
     requires empty { said.old.text ≡ [] }
     requires runs { RunsAt fleet.old place said.old.capacity }
-    ensures changes { ChangesOne fleet.old place (SaysTold number done said.new.text) fleet.new }
-    ensures size { AtPlan fleet.old place (λ plan. length said.new.text ≤ answer_room plan.net) }
+    ensures changes { ChangesOne fleet.old place (SaysReported number done said.new.text)
+        fleet.new }
+    ensures size { AtPlan fleet.old place
+        (λ plan. length said.new.text ≤ answer_capacity plan.net) }
     ensures capacity { said.old.capacity ≤ said.new.capacity }
 {
     let _ = fleet.network(place);

@@ -1,24 +1,24 @@
 //! The plans of a fleet in its text.
 
 ghost use Rattle.std.specs.Prelude.{◌≡◌, ◌≤◌, length};
-ghost use Rattle.series_text.specs.Series.{series_begun};
+ghost use Rattle.text_sequence.specs.Series.{initial_series};
 ghost use Rattle.plan_fleet.specs.Limits.{most_plans};
-ghost use Rattle.fleet_command.specs.FleetText.{fleet_begun, fleet_reader, plans_reader};
+ghost use Rattle.fleet_command.specs.FleetText.{initial_fleet, fleet_reader, plans_reader};
 
-use crate::between::PlanLines;
 use crate::header::FleetHeader;
-use crate::planned::{Planned, PlannedText};
-use command_engine::{Step, Stop, Text, Then};
+use crate::plan_or_refusal::{PlanOrRefusal, PlanOrRefusalText};
+use crate::plan_separators::PlanSeparators;
+use command_engine::{Parse, Stop, Text, Then};
 use common_answers::Fault;
 use net_model::Name;
-use series_text::{Done, Series};
 use std::alloc::{AllocError, Global};
 use std::marker::Model;
+use text_sequence::{Done, Series};
 
 /// At most 64 plans, each under its name. Contracts see them as their list.
 #[derive(Drop)]
 pub struct Plans {
-    done: Done<(Name, Planned)>,
+    done: Done<(Name, PlanOrRefusal)>,
 }
 
 impl Model for Plans {
@@ -35,7 +35,7 @@ impl Model for Plans {
 
 impl Plans {
     /// The plans, in their order.
-    pub(crate) fn into_vec(self) -> Vec<(Name, Planned)>
+    pub(crate) fn into_vec(self) -> Vec<(Name, PlanOrRefusal)>
         ensures plans { result.items ≡ self }
         ensures few { length self ≤ most_plans }
     {
@@ -44,11 +44,11 @@ impl Plans {
     }
 }
 
-/// The plans of a fleet, each after a line `plan NAME`, up to the line `go`, and how far they were read. Contracts see it as a series of
-/// texts; it has at most 64.
+/// The plans of a fleet, each after a line `plan NAME`, up to the line `go`, and how far they were
+/// read. Contracts see it as a series of texts; it has at most 64.
 #[derive(Drop)]
 pub struct PlansText {
-    series: Series<PlanLines, Name, Planned, PlannedText>,
+    series: Series<PlanSeparators, Name, PlanOrRefusal, PlanOrRefusalText>,
 }
 
 impl Model for PlansText {
@@ -64,10 +64,10 @@ impl Model for PlansText {
 impl PlansText {
     /// Before the first line.
     pub fn new(alloc: Global) -> PlansText
-        ensures { result ≡ series_begun (record {}) }
+        ensures { result ≡ initial_series (record {}) }
     {
         PlansText {
-            series: Series::Between(PlanLines, Done::new(alloc)),
+            series: Series::Between(PlanSeparators, Done::new(alloc)),
         }
     }
 }
@@ -88,11 +88,11 @@ impl Text for PlansText {
         alloc: Global,
         number: u32,
         line: &[u8],
-    ) -> Result<Step<PlansText, Plans, Fault>, AllocError> {
+    ) -> Result<Parse<PlansText, Plans, Fault>, AllocError> {
         match self.series.read_line(alloc, number, line)? {
-            Step::Goes(series) => Ok(Step::Goes(PlansText { series })),
-            Step::Gives(done) => Ok(Step::Gives(Plans { done })),
-            Step::Refused(fault) => Ok(Step::Refused(fault)),
+            Parse::Continue(series) => Ok(Parse::Continue(PlansText { series })),
+            Parse::Parsed(done) => Ok(Parse::Parsed(Plans { done })),
+            Parse::Refused(fault) => Ok(Parse::Refused(fault)),
         }
     }
 
@@ -105,8 +105,8 @@ impl Text for PlansText {
 pub type FleetText = Then<FleetHeader, (), PlansText>;
 
 /// The text of a fleet before its first line.
-pub(crate) fn begun(alloc: Global) -> FleetText
-    ensures { result ≡ fleet_begun }
+pub(crate) fn initial(alloc: Global) -> FleetText
+    ensures { result ≡ initial_fleet }
 {
     Then::First(FleetHeader, PlansText::new(alloc))
 }

@@ -6,15 +6,15 @@ use Rattle.cert_checker.specs.Judgement.{judgement_of}
 use Rattle.cert_checker.specs.declared.judgement.Judgement.{Judgement}
 use Rattle.cert_checker.specs.declared.judgement.Judgement.TheVariants.{Accepted, Refused as Rejected}
 use Rattle.command_engine.specs.declared.endings.End.{End}
-use Rattle.command_frame.specs.Causes.{IsAnswer}
+use Rattle.command_contracts.specs.Causes.{IsAnswer}
 use Rattle.judge_command.specs.JudgePromise.{PutsJudgement}
-use Rattle.judge_command.specs.Judging.{PutsProof, judgement_end, strong_judgement_end}
+use Rattle.judge_command.specs.JudgeAnswers.{PutsProof, judgement_end, strong_judgement_end}
 use Rattle.strong_plan.specs.Judgement.{judgement_of as strong_judgement_of}
 use Rattle.strong_plan.specs.declared.judgement.StrongJudgement.{StrongJudgement}
 use Rattle.strong_plan.specs.declared.judgement.StrongJudgement.TheVariants as strong
-use Rattle.certificate_inputs.specs.declared.proof_input.Proof.{Proof}
-use Rattle.certificate_inputs.specs.declared.proof_input.Proof.TheVariants.{Control, Strong}
-use Rattle.command_frame.proofs.CauseLemmas.{answers_as}
+use Rattle.input_texts.specs.declared.proof_input.Proof.{Proof}
+use Rattle.input_texts.specs.declared.proof_input.Proof.TheVariants.{Control, Strong}
+use Rattle.command_contracts.proofs.CauseLemmas.{answers_as}
 
 judgement_answers : (judgement : Judgement) → IsAnswer (judgement_end judgement)
 judgement_answers (Accepted claim) = tt

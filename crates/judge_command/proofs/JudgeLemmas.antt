@@ -24,22 +24,22 @@ use Rattle.command_engine.specs.declared.endings.End.{End}
 use Rattle.command_engine.specs.declared.pairs.Then.TheVariants.{First}
 use Rattle.command_engine.proofs.InputLemmas.{answers_text}
 use Rattle.command_engine.proofs.PairGrammarLemmas.{pair_by}
-use Rattle.certificate_inputs.specs.ProofInputs.{proof_begun, proof_reader}
-use Rattle.certificate_inputs.specs.declared.proof_input.Proof.{Proof}
-use Rattle.certificate_inputs.specs.declared.proof_input.Proof.TheVariants.{Control, Strong}
+use Rattle.input_texts.specs.ProofInputs.{initial_proof, proof_reader}
+use Rattle.input_texts.specs.declared.proof_input.Proof.{Proof}
+use Rattle.input_texts.specs.declared.proof_input.Proof.TheVariants.{Control, Strong}
 use Rattle.common_answers.specs.Faults.{fault_line, refusing}
-use Rattle.judge_command.specs.Judging.{PutsProof, judge_answers, judge_machine, judge_start, judgement_line, strong_judgement_line}
+use Rattle.judge_command.specs.JudgeAnswers.{PutsProof, judge_answers, judge_machine, judge_start, judgement_line, strong_judgement_line}
 use Rattle.judge_command.specs.JudgePromise.{JudgePromise, PutsJudgement}
-use Rattle.plan_inputs.specs.PlanInput.{input_begun, input_reader, plan_in}
-use Rattle.judge_command.specs.ToJudge.{judge_grammar, judged_texts}
+use Rattle.input_texts.specs.PlanInput.{initial_input, input_reader, plan_in}
+use Rattle.judge_command.specs.JudgeInput.{judge_grammar, judged_texts}
 use Rattle.common_answers.specs.declared.faults.Fault.{Fault}
-use Rattle.judge_command.specs.declared.judging.Judge.{Judge}
-use Rattle.certificate_inputs.proofs.ProofLemmas.{proof_by}
-use Rattle.plan_inputs.proofs.PlanInputLemmas.{input_by, input_one, input_sound}
+use Rattle.judge_command.specs.declared.judge_question.Judge.{Judge}
+use Rattle.input_texts.proofs.ProofLemmas.{proof_by}
+use Rattle.input_texts.proofs.PlanInputLemmas.{input_by, input_one, input_sound}
 
 -- a plan and a certificate after it are read by their grammars
-judge_by : (judge : Judge) → ReadsBy (then_reader input_reader proof_reader) (First (input_begun judge.form) (proof_begun judge.kind)) 0 (judge_grammar judge)
-judge_by judge = pair_by input_reader proof_reader (proof_begun judge.kind) (input_begun judge.form) 0 (plan_in judge.form) (judged_texts judge) (input_by judge.form 0) (proof_by judge.kind)
+judge_by : (judge : Judge) → ReadsBy (then_reader input_reader proof_reader) (First (initial_input judge.form) (initial_proof judge.kind)) 0 (judge_grammar judge)
+judge_by judge = pair_by input_reader proof_reader (initial_proof judge.kind) (initial_input judge.form) 0 (plan_in judge.form) (judged_texts judge) (input_by judge.form 0) (proof_by judge.kind)
 
 puts_once : (net : Plan) (proof : Proof) (a b : List ℕ) (x y : End) → PutsProof net proof a x → PutsProof net proof b y → (a ≡ b) × (x ≡ y)
 puts_once net (Control cert) a b x y one other = (one.0 ∙ sym other.0, one.1 ∙ sym other.1)
@@ -97,7 +97,7 @@ no_fault_line : (fault : Fault) → fault_line fault ≡ strongly → ⊥
 unfolding strongly
 no_fault_line fault same = let byte : ◌≡◌ {A = ℕ} 101 97 = ap (byte_at 0) same in omega arith
 
--- where it is put that a claim is accepted, the claim is that of a certificate of the network
+-- if it is put that a claim is accepted, the claim is that of a certificate of the network
 control_by : (net : Plan) (claim : Claim) (proof : Proof) (put : List ℕ) (end : End) → PutsProof net proof put end → put ≡ accepted claim → (certificate : Certificate) × (judgement_of (shown_form net) certificate ≡ Accepted claim)
 control_by net claim (Control cert) put end puts same = (cert, only_accepted claim (judgement_of (shown_form net) cert) (sym puts.0 ∙ same))
 control_by net claim (Strong cert) put end puts same = absurd (no_strong_line claim (strong_judgement_of net cert) (sym puts.0 ∙ same))
@@ -107,7 +107,8 @@ strong_by net (Control cert) put end puts same = absurd (no_control_line (judgem
 strong_by net (Strong cert) put end puts same = (cert, only_strongly (strong_judgement_of net cert) (sym puts.0 ∙ same))
 
 -- and that network is the one that the input declares
-accepts_by : (judge : Judge) (claim : Claim) (input put : List ℕ) (end : End) → AnswersOrRefuses (judge_grammar judge) refusing PutsJudgement input put end → put ≡ accepted claim → (net : Plan) (rest : List (List ℕ)) → (plan_in judge.form).declares (lines input) net rest
+accepts_by : (judge : Judge) (claim : Claim) (input put : List ℕ) (end : End) → AnswersOrRefuses (judge_grammar judge) refusing PutsJudgement input put end → put ≡ accepted claim → (net : Plan) (rest : List (List ℕ))
+    → (plan_in judge.form).declares (lines input) net rest
     → IsPlan net × ((certificate : Certificate) × (judgement_of (shown_form net) certificate ≡ Accepted claim))
 accepts_by judge claim input put end (inl (value, after, both, puts)) same net rest network =
     let one : value.0 ≡ net = input_one judge.form (lines input) value.0 net both.0.rest rest both.0.declared network in
@@ -115,7 +116,8 @@ accepts_by judge claim input put end (inl (value, after, both, puts)) same net r
 accepts_by judge claim input put end (inr (fault, first, puts)) same net rest network =
     absurd (no_refusal_line claim fault (sym puts.0 ∙ same))
 
-strongly_by : (judge : Judge) (input put : List ℕ) (end : End) → AnswersOrRefuses (judge_grammar judge) refusing PutsJudgement input put end → put ≡ strongly → (net : Plan) (rest : List (List ℕ)) → (plan_in judge.form).declares (lines input) net rest
+strongly_by : (judge : Judge) (input put : List ℕ) (end : End) → AnswersOrRefuses (judge_grammar judge) refusing PutsJudgement input put end → put ≡ strongly → (net : Plan) (rest : List (List ℕ))
+    → (plan_in judge.form).declares (lines input) net rest
     → IsPlan net × ((cert : StrongCert) × (strong_judgement_of net cert ≡ strong.Accepted))
 strongly_by judge input put end (inl (value, after, both, puts)) same net rest network =
     let one : value.0 ≡ net = input_one judge.form (lines input) value.0 net both.0.rest rest both.0.declared network in
@@ -132,7 +134,8 @@ controls_by law net (plan, (certificate, judged)) = law net certificate plan jud
 pub judge_keeps : AcceptedExcludes → AcceptedControls → AcceptedExcludesStrong → (judge : Judge) (input put : List ℕ) (end : End) → Runs judge_machine (judge_start judge) input put end → JudgePromise judge input put end
 unfolding accepted strongly
 judge_keeps excludes controls not_strong judge input put end runs =
-    let judges = answers_text (then_reader input_reader proof_reader) (First (input_begun judge.form) (proof_begun judge.kind)) (judge_grammar judge) (judge_by judge) (λ (question : Judge) value number. judge_answers question value) refusing judge input put end runs in
+    let judges = answers_text (then_reader input_reader proof_reader) (First (initial_input judge.form) (initial_proof judge.kind)) (judge_grammar judge) (judge_by judge)
+    (λ (question : Judge) value number. judge_answers question value) refusing judge input put end runs in
     record {
       judges = judges;
       excludes = λ same net rest network controllable. excludes_by excludes net (accepts_by judge NotControllable input put end judges.answers same net rest network) controllable;

@@ -2,29 +2,30 @@
 use Rattle.std.proofs.Common.{◌≡◌, ◌↔◌, Bool, true, false, List, Option, Some, None, refl, ap, ◌∙◌}
 use Rattle.std.specs.Option.{option_map}
 use Rattle.command_words.specs.Arguments.{is_given, text_given}
-use Rattle.command_words.specs.Spelling.{Use}
+use Rattle.command_words.specs.SpelledWords.{Use}
 use Rattle.command_words.specs.Syntax.{Text}
-use Rattle.command_frame.specs.PlanWords.{delay_name, form_given}
-use Rattle.command_frame.specs.Requests.{asked_by}
-use Rattle.command_frame.specs.Workers.{DifferInWorkers, WorkersDecideNothing}
-use Rattle.plan_inputs.specs.PlanInput.{json_name}
-use Rattle.plan_inputs.specs.declared.plan_input.PlanForm.{PlanForm}
-use Rattle.certificate_inputs.specs.ProofInputs.{kind_by, strong_name}
-use Rattle.certificate_inputs.specs.declared.proof_input.ProofKind.{ProofKind}
-use Rattle.certificate_inputs.specs.declared.proof_input.ProofKind.TheVariants.{Control, Strong}
-use Rattle.judge_command.specs.Judging.{judge_asked, judge_given, judge_syntax}
+use Rattle.command_contracts.specs.PlanWords.{delay_name, form_given}
+use Rattle.command_contracts.specs.Requests.{requested_by}
+use Rattle.command_contracts.specs.WorkerCounts.{DifferInWorkers, WorkersDecideNothing}
+use Rattle.input_texts.specs.PlanInput.{json_name}
+use Rattle.input_texts.specs.declared.plan_input.PlanForm.{PlanForm}
+use Rattle.input_texts.specs.ProofInputs.{kind_by, strong_name}
+use Rattle.input_texts.specs.declared.proof_input.ProofKind.{ProofKind}
+use Rattle.input_texts.specs.declared.proof_input.ProofKind.TheVariants.{Control, Strong}
+use Rattle.judge_command.specs.JudgeAnswers.{judge_request, judge_given, judge_syntax}
 use Rattle.judge_command.specs.Words.{SayJudge}
-use Rattle.judge_command.specs.declared.judging.Judge.{Judge}
-use Rattle.command_frame.proofs.FormWordLemmas.{form_said, says_form}
-use Rattle.command_frame.proofs.WorkersLemmas.{asks, meant}
+use Rattle.judge_command.specs.declared.judge_question.Judge.{Judge}
+use Rattle.command_contracts.proofs.FormWordLemmas.{form_said, says_form}
+use Rattle.command_contracts.proofs.WorkersLemmas.{asks, meant}
 
--- what is asked, by whether a strong certificate is, the form and the delay
+-- the request, by whether a strong certificate is, the form and the delay
 record IsGiven (strong json : Bool) (delay : Option Text) (judge : Judge) : Type 0 where
   form : form_given json delay ≡ Some judge.form
   kind : kind_by strong ≡ judge.kind
   alone : judge.kind ≡ Strong → delay ≡ None
 
-made : (strong : Bool) (found : Option PlanForm) (judge : Judge) → option_map (λ (form : PlanForm). let j : Judge = record { form = form; kind = kind_by strong } in j) found ≡ Some judge → (found ≡ Some judge.form) × (kind_by strong ≡ judge.kind)
+made : (strong : Bool) (found : Option PlanForm) (judge : Judge) → option_map (λ (form : PlanForm). let j : Judge = record { form = form; kind = kind_by strong } in j) found ≡ Some judge
+    → (found ≡ Some judge.form) × (kind_by strong ≡ judge.kind)
 made strong None judge is = absurd cc
 made strong (Some form) judge is =
     let one : (let j : Judge = record { form = form; kind = kind_by strong } in j) ≡ judge = cc in
@@ -47,27 +48,28 @@ gives true json None judge is =
 gives false json delay judge is =
     ap (option_map (λ (form : PlanForm). let j : Judge = record { form = form; kind = Control } in j)) is.form ∙ ap (λ (k : ProofKind). let o : Option Judge = Some (record { form = judge.form; kind = k }) in o) is.kind
 
-pub judge_exactly : (words : List Text) (judge : Judge) → asked_by judge_syntax judge_asked words ≡ Some judge ↔ SayJudge judge_syntax judge words
+pub judge_exactly : (words : List Text) (judge : Judge) → requested_by judge_syntax judge_request words ≡ Some judge ↔ SayJudge judge_syntax judge words
 judge_exactly words judge = (to, from)
   where
-    to : asked_by judge_syntax judge_asked words ≡ Some judge → SayJudge judge_syntax judge words
+    to : requested_by judge_syntax judge_request words ≡ Some judge → SayJudge judge_syntax judge words
     to is =
-        let means = meant judge_syntax refl judge_asked words judge is in
+        let means = meant judge_syntax refl judge_request words judge is in
         let its = given (is_given strong_name means.0) (is_given json_name means.0) (text_given delay_name means.0) judge means.2 in
         record { uses = means.0; says = means.1; given = says_form means.0 judge.form its.form; kind = its.kind; alone = its.alone }
 
-    from : SayJudge judge_syntax judge words → asked_by judge_syntax judge_asked words ≡ Some judge
+    from : SayJudge judge_syntax judge words → requested_by judge_syntax judge_request words ≡ Some judge
     from say =
-        asks judge_syntax refl judge_asked words say.uses say.says
+        asks judge_syntax refl judge_request words say.uses say.says
         ∙ gives (is_given strong_name say.uses) (is_given json_name say.uses) (text_given delay_name say.uses) judge (record { form = form_said say.uses judge.form say.given; kind = say.kind; alone = say.alone })
 
 -- the words of `judge` say no number of workers
-same_judge : (uses others : List Use) → DifferInWorkers uses others → judge_given (is_given strong_name uses) (is_given json_name uses) (text_given delay_name uses) ≡ judge_given (is_given strong_name others) (is_given json_name others) (text_given delay_name others)
+same_judge : (uses others : List Use) → DifferInWorkers uses others → judge_given (is_given strong_name uses) (is_given json_name uses) (text_given delay_name uses) ≡ judge_given (is_given strong_name others) (is_given json_name others)
+    (text_given delay_name others)
 same_judge uses others differ =
     let strong : is_given strong_name uses ≡ is_given strong_name others = differ.flags strong_name refl in
     let json : is_given json_name uses ≡ is_given json_name others = differ.flags json_name refl in
     let delay : text_given delay_name uses ≡ text_given delay_name others = differ.options delay_name refl in
     λ i. judge_given (strong i) (json i) (delay i)
 
-pub workers_decide_no_judging : WorkersDecideNothing judge_syntax judge_asked
+pub workers_decide_no_judging : WorkersDecideNothing judge_syntax judge_request
 workers_decide_no_judging = record { sound = refl; no_flag = refl; same = same_judge }

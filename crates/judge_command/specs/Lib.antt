@@ -1,4 +1,4 @@
-pub mod Judging
-pub mod ToJudge
+pub mod JudgeAnswers
+pub mod JudgeInput
 pub mod JudgePromise
 pub mod Words

@@ -1,12 +1,12 @@
 -- Which words say uses of `judge`.
 use Rattle.std.specs.Prelude.{◌≡◌, List, None}
 use Rattle.command_words.specs.Arguments.{is_given, text_given}
-use Rattle.command_words.specs.Spelling.{Use, Says}
+use Rattle.command_words.specs.SpelledWords.{Use, Says}
 use Rattle.command_words.specs.Syntax.{Syntax, Text}
-use Rattle.certificate_inputs.specs.ProofInputs.{kind_by, strong_name}
-use Rattle.certificate_inputs.specs.declared.proof_input.ProofKind.TheVariants.{Strong}
-use Rattle.command_frame.specs.PlanWords.{SaysForm, delay_name}
-use Rattle.judge_command.specs.declared.judging.Judge.{Judge}
+use Rattle.input_texts.specs.ProofInputs.{kind_by, strong_name}
+use Rattle.input_texts.specs.declared.proof_input.ProofKind.TheVariants.{Strong}
+use Rattle.command_contracts.specs.PlanWords.{SaysForm, delay_name}
+use Rattle.judge_command.specs.declared.judge_question.Judge.{Judge}
 
 -- the words say uses of this command: this form of the plan, and this kind of certificate; of a strong one no delay is given
 pub record SayJudge (command : Syntax) (judge : Judge) (words : List Text) : Type 0 where

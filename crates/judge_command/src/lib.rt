@@ -1,8 +1,8 @@
 //! The command `judge`: a plan and a certificate, and whether it proves what it claims.
 #![tactic(auto)]
 
-mod judging;
+mod judge_question;
 mod laws;
 
-pub use judging::Judge;
-pub use laws::{judge_is_lawful, judge_is_read_exactly};
+pub use judge_question::Judge;
+pub use laws::{law_judge_is_lawful, law_judge_is_read_exactly};

@@ -13,14 +13,14 @@ use Rattle.closure_model.specs.Keys.{Key, key_of, edge_of, IsKey, ordinary_key, 
 use Rattle.closure_model.specs.ReferenceRow.{ordinary_into}
 use Rattle.closure_model.specs.Tables.{Graph, weight_of, HasEdge, edges_of, row_of, edges_at, IsGraph}
 use Rattle.closure_model.proofs.KeyLists.{row_keys_owned}
-use Rattle.closure_model.proofs.Listed.{row_listed}
+use Rattle.closure_model.proofs.ListedEdges.{row_listed}
 use Rattle.closure_model.proofs.Lists.{filter_all}
 use Rattle.closure_model.proofs.TableLemmas.{listed_edge}
 use Rattle.labelled_graph.specs.declared.entry.Entry.{Entry}
 use Rattle.labelled_graph.specs.Entries.{edge_into, is_ordinary, wide_label}
 use Rattle.labelled_graph.specs.Rows.{TargetRow, keyed, AllFitIn, IsMirrorOf}
-use Rattle.labelled_graph.specs.Words.{held, word_of, AllFitWords, AreWordsOf}
-use Rattle.labelled_graph.specs.Stored.{graph_with, AreStored}
+use Rattle.labelled_graph.specs.Words.{held, word_of, AllFitWords, AreWordsOfColumn}
+use Rattle.labelled_graph.specs.StoredRows.{graph_with, AreStored}
 use Rattle.labelled_graph.proofs.StoredLemmas.{sound_graph, shape_is, row_there, row_target, row_reads}
 use Rattle.labelled_graph.proofs.WordLemmas.{held_at, held_once}
 use Rattle.std.proofs.Math.ListN.{length-map}
@@ -62,10 +62,12 @@ module _ (graph : Graph) (to : PointId) where
       by None rest = rest
       by (Some w) rest = rest
 
-  one_ordinary : (from : PointId) (labels : List LinkId) → filter (λ edge. is_none edge.label) (edges_at graph (ordinary_key from to ∷ map (labelled_key from to) labels)) ≡ cons_option (option_map (edge_of (ordinary_key from to)) (weight_of graph (ordinary_key from to))) []
+  one_ordinary : (from : PointId) (labels : List LinkId) → filter (λ edge. is_none edge.label) (edges_at graph (ordinary_key from to ∷ map (labelled_key from to) labels)) ≡ cons_option
+      (option_map (edge_of (ordinary_key from to)) (weight_of graph (ordinary_key from to))) []
   one_ordinary from labels = by (weight_of graph (ordinary_key from to))
     where
-      by : (o : Option ℤ) → filter (λ edge. is_none edge.label) (cons_option (option_map (edge_of (ordinary_key from to)) o) (edges_at graph (map (labelled_key from to) labels))) ≡ cons_option (option_map (edge_of (ordinary_key from to)) o) []
+      by : (o : Option ℤ) → filter (λ edge. is_none edge.label) (cons_option (option_map (edge_of (ordinary_key from to)) o) (edges_at graph (map (labelled_key from to) labels))) ≡ cons_option
+          (option_map (edge_of (ordinary_key from to)) o) []
       by None = no_labelled from labels
       by (Some w) = ap (λ edges. edge_of (ordinary_key from to) w ∷ edges) (no_labelled from labels)
 
@@ -84,7 +86,8 @@ module _ (graph : Graph) (to : PointId) where
       ∙ onto (option_map (edge_of (ordinary_key from to)) (weight_of graph (ordinary_key from to))) _
 
 -- ---- the entries of a row
-module _ (rows : List TargetRow) (activations : List PointId) (stored : AreStored rows activations) (graph : Graph) (view : graph_with rows activations ≡ graph) (to : PointId) (inside : to.0 < graph.shape.points) (row : TargetRow) (read : row ≡ get_or rows to.0 row) where
+module _ (rows : List TargetRow) (activations : List PointId) (stored : AreStored rows activations) (graph : Graph) (view : graph_with rows activations ≡ graph) (to : PointId) (inside : to.0 < graph.shape.points) (row : TargetRow)
+    (read : row ≡ get_or rows to.0 row) where
   sound : IsGraph graph
   sound = sound_graph rows activations stored graph view
 
@@ -118,7 +121,7 @@ module _ (rows : List TargetRow) (activations : List PointId) (stored : AreStore
   pub reads_first : (first : PointId) → map_of.get row.weights (ordinary_key first row.to) ≡ weight_of graph (ordinary_key first to)
   reads_first first = ap (λ (p : PointId). map_of.get row.weights (ordinary_key first p)) ends ∙ alike (ordinary_key first to) refl
 
-  pub words_of : (words : List ℤ) → IsMirrorOf row (map held words) → AreWordsOf graph to None words
+  pub words_of : (words : List ℤ) → IsMirrorOf row (map held words) → AreWordsOfColumn graph to None words
   words_of words mirror from inside =
       let long : from.0 < length (map held words) = omega (arith, inside, length-map words held) in
       held_once (get_or words from.0 (pos 0)) (word_of (weight_of graph (ordinary_key from to)))

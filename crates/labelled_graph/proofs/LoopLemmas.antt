@@ -25,7 +25,8 @@ mapped_more f xs k d inside was now held step = step ∙ ap (λ ys. ys ++ f (get
 pub edge_still_for : (before now : Graph) (given : List Edge) (edge : Edge) → now ≡ fold lowered before given → IsEdgeFor before.shape edge → IsEdgeFor now.shape edge
 edge_still_for before now given edge is for = let shape : now.shape ≡ before.shape = ap (λ (g : Graph). g.shape) is ∙ all_lowered-shape before given in subst (λ s. IsEdgeFor s edge) (sym shape) for
 
-pub link_edge_for : (shape : Shape) (links : List Link) (k : ℕ) (d : Link) → All (λ e. IsEdgeFor shape (link_edge (record { 0 = e.0 }) e.1)) (enumerate_from 0 links) → k < length links → IsEdgeFor shape (link_edge (record { 0 = k }) (get_or links k d))
+pub link_edge_for : (shape : Shape) (links : List Link) (k : ℕ) (d : Link) → All (λ e. IsEdgeFor shape (link_edge (record { 0 = e.0 }) e.1)) (enumerate_from 0 links) → k < length links
+    → IsEdgeFor shape (link_edge (record { 0 = k }) (get_or links k d))
 link_edge_for shape links k d all inside =
     let long : k < length (enumerate_from 0 links) = omega (arith, length-enumerate_from 0 links) in
     let read : get_or (enumerate_from 0 links) k (0, d) ≡ (k, get_or links k d) = get_or-enumerate_from 0 links k (0, d) inside ∙ (let same : 0 + k ≡ k = omega arith in ap (λ (m : ℕ). (m, get_or links k d)) same) in
@@ -42,7 +43,8 @@ pub links_lowered-more : (before now after : Graph) (links : List Link) (k : ℕ
 links_lowered-more before now after links k d inside held step =
     let f : ℕ × Link → Edge = λ e. link_edge (record { 0 = e.0 }) e.1 in
     let last : Edge = link_edge (record { 0 = k }) (get_or links k d) in
-    let split : map f (enumerate_from 0 (take (k + 1) links)) ≡ map f (enumerate_from 0 (take k links)) ++ last ∷ [] = ap (map f) (numbered_more k links d inside) ∙ map-append f (enumerate_from 0 (take k links)) ((k, get_or links k d) ∷ []) in
+    let split : map f (enumerate_from 0 (take (k + 1) links)) ≡ map f (enumerate_from 0 (take k links)) ++ last ∷ [] = ap (map f) (numbered_more k links d inside)
+    ∙ map-append f (enumerate_from 0 (take k links)) ((k, get_or links k d) ∷ []) in
     step ∙ ap (λ g. lowered g last) held ∙ sym (fold-append lowered before (map f (enumerate_from 0 (take k links))) (last ∷ [])) ∙ sym (ap (fold lowered before) split)
 
 -- ---- the base table, by bounds and then by links

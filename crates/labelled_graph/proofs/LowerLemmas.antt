@@ -21,9 +21,9 @@ use Rattle.closure_model.proofs.TableLemmas.{at_most_gives, at_most_tested, all_
 use Rattle.closure_model.proofs.Weights.{not_below, le_then_lt}
 use Rattle.labelled_graph.specs.Changes.{IsEdgeFor}
 use Rattle.labelled_graph.specs.Entries.{edge_into, key_into}
-use Rattle.labelled_graph.specs.Merging.{edges_made, row_set, weights_set, AreEntriesOf, AreMadeFor}
+use Rattle.labelled_graph.specs.MergedRows.{edges_made, row_set, weights_set, AreEntriesOf, AreMadeFor}
 use Rattle.labelled_graph.specs.Rows.{TargetRow, AreRising}
-use Rattle.labelled_graph.specs.Stored.{AreStored, graph_with}
+use Rattle.labelled_graph.specs.StoredRows.{AreStored, graph_with}
 use Rattle.labelled_graph.specs.declared.entry.Entry.{Entry}
 use Rattle.labelled_graph.proofs.RowLemmas.{below_at}
 use Rattle.labelled_graph.proofs.StoredLemmas.{AreTableOf, one_set, row_target, row_there}
@@ -59,10 +59,11 @@ pub same_given : (graph : Graph) (one other : List Edge) → ((edge : Edge) → 
 same_given graph one other forth back =
     let shape : (fold lowered graph one).shape ≡ (fold lowered graph other).shape = all_lowered-shape graph one ∙ sym (all_lowered-shape graph other) in
     let weights : (fold lowered graph one).weights ≡ (fold lowered graph other).weights =
-    map_of.same_map key_total same_key (fold lowered graph one).weights (fold lowered graph other).weights (same_weights (fold lowered graph one) (fold lowered graph other) (at_most_given graph one other back) (at_most_given graph other one forth)) in
+    map_of.same_map key_total same_key (fold lowered graph one).weights (fold lowered graph other).weights
+    (same_weights (fold lowered graph one) (fold lowered graph other) (at_most_given graph one other back) (at_most_given graph other one forth)) in
     λ i. record { shape = shape i; weights = weights i }
 
--- ---- edges of different keys that fall
+-- ---- edges of different keys that improve
 set_lowers : (graph : Graph) (edge : Edge) → IsBelow graph edge → with_edge graph edge ≡ lowered graph edge
 set_lowers graph edge below = by (has_at_most graph edge) refl
   where
@@ -72,7 +73,8 @@ set_lowers graph edge below = by (has_at_most graph edge) refl
         let (weight, has, less) = at_most_gives graph edge (at_most_tested graph edge is) in
         absurd (not_below weight weight refl (le_then_lt weight edge.weight weight less (below weight has)))
 
-all_set_lower : (to : PointId) (graph : Graph) (new : List Entry) → AreRising to new → ((entry : Entry) → Contains new entry → IsBelow graph (edge_into to entry)) → fold with_edge graph (map (edge_into to) new) ≡ fold lowered graph (map (edge_into to) new)
+all_set_lower : (to : PointId) (graph : Graph) (new : List Entry) → AreRising to new → ((entry : Entry) → Contains new entry → IsBelow graph (edge_into to entry))
+    → fold with_edge graph (map (edge_into to) new) ≡ fold lowered graph (map (edge_into to) new)
 all_set_lower to graph [] rises below = refl
 all_set_lower to graph (entry ∷ new) rises below =
     all_set_lower to (with_edge graph (edge_into to entry)) new (both _ _ rises).1 still
@@ -99,7 +101,8 @@ all_set (entry ∷ new) rows activations stored graph view before inside read ea
     let for = each entry (Contains-head entry new) in
     let (stored_now, view_now) = one_set rows activations stored graph view (key_into before.to entry) entry.weight for.0 for.1 before after read refl in
     subst (λ (rs : List TargetRow). AreTableOf rs activations (fold with_edge (with_edge graph (edge_into before.to entry)) (map (edge_into before.to) new))) (set-set rows before.to.0 after (row_set after new))
-    (all_set new (set rows before.to.0 after) activations stored_now (with_edge graph (edge_into before.to entry)) view_now after (subst (λ n. before.to.0 < n) (sym (length-set rows before.to.0 after)) inside) (sym (get_or-set_same rows before.to.0 after after inside))
+    (all_set new (set rows before.to.0 after) activations stored_now (with_edge graph (edge_into before.to entry)) view_now after (subst (λ n. before.to.0 < n) (sym (length-set rows before.to.0 after)) inside)
+    (sym (get_or-set_same rows before.to.0 after after inside))
     (λ other there. each other (Contains-tail entry new other there)))
 
 -- ---- what a row made
@@ -112,8 +115,8 @@ module _ (graph : Graph) (to : PointId) (made : List Made) (for : AreMadeFor gra
   entry_for : (entry : Entry) → Contains entries entry → IsEdgeFor graph.shape (edge_into to entry)
   entry_for entry inside = let (one, there, is) = made_there entry inside in subst (IsEdgeFor graph.shape) is (All-contains (λ (m : Made). IsEdgeFor graph.shape m.edge) made one for.edges there)
 
-  entry_falls : (entry : Entry) → Contains entries entry → IsBelow graph (edge_into to entry)
-  entry_falls entry inside = let (one, there, is) = made_there entry inside in subst (IsBelow graph) is (All-contains (λ (m : Made). IsBelow graph m.edge) made one for.falls there)
+  entry_improves : (entry : Entry) → Contains entries entry → IsBelow graph (edge_into to entry)
+  entry_improves entry inside = let (one, there, is) = made_there entry inside in subst (IsBelow graph) is (All-contains (λ (m : Made). IsBelow graph m.edge) made one for.descends there)
 
   lowered_alike : fold lowered graph (map (edge_into to) entries) ≡ with_made graph made
   lowered_alike = same_given graph (map (edge_into to) entries) (edges_made made) forth back
@@ -129,7 +132,8 @@ module _ (graph : Graph) (to : PointId) (made : List Made) (for : AreMadeFor gra
           let (entry, there, is) = Contains-map_from (edge_into to) of.all edge (subst (λ (edges : List Edge). Contains edges edge) (sym (of.each to for.ends)) inside) in
           subst (Contains (map (edge_into to) entries)) is (Contains-map (edge_into to) entries entry (Contains-permutation of.all entries entry of.same there))
 
-  pub table_merged : AreRising to entries → (rows : List TargetRow) (activations : List PointId) (stored : AreStored rows activations) (view : graph_with rows activations ≡ graph) (before after : TargetRow) → before ≡ get_or rows to.0 before → after ≡ row_set before entries
+  pub table_merged : AreRising to entries → (rows : List TargetRow) (activations : List PointId) (stored : AreStored rows activations) (view : graph_with rows activations ≡ graph) (before after : TargetRow)
+      → before ≡ get_or rows to.0 before → after ≡ row_set before entries
       → AreTableOf (set rows to.0 after) activations (with_made graph made)
   table_merged rises rows activations stored view before after read is =
       let ends : before.to ≡ to = row_target rows activations stored graph view to for.target before read in
@@ -138,18 +142,20 @@ module _ (graph : Graph) (to : PointId) (made : List Made) (for : AreMadeFor gra
       (λ entry at. subst (λ (p : PointId). IsEdgeFor graph.shape (edge_into p entry)) (sym ends) (entry_for entry at)) in
       let here : AreTableOf (set rows to.0 (row_set before entries)) activations (fold with_edge graph (map (edge_into to) entries)) =
       subst (λ (p : PointId). AreTableOf (set rows p.0 (row_set before entries)) activations (fold with_edge graph (map (edge_into p) entries))) ends there in
-      let whole : fold with_edge graph (map (edge_into to) entries) ≡ with_made graph made = all_set_lower to graph entries rises entry_falls ∙ lowered_alike in
+      let whole : fold with_edge graph (map (edge_into to) entries) ≡ with_made graph made = all_set_lower to graph entries rises entry_improves ∙ lowered_alike in
       subst (λ (r : TargetRow). AreTableOf (set rows to.0 r) activations (with_made graph made)) (sym is) (subst (AreTableOf (set rows to.0 (row_set before entries)) activations) whole here)
 
-  -- the rows store a table also where memory is wanted
-  pub merged_stored : {E : Type 0} → AreRising to entries → (rows : List TargetRow) (activations : List PointId) (stored : AreStored rows activations) (view : graph_with rows activations ≡ graph) (before after : TargetRow) → before ≡ get_or rows to.0 before
+  -- the rows store a table also if there is no memory
+  pub merged_stored : {E : Type 0} → AreRising to entries → (rows : List TargetRow) (activations : List PointId) (stored : AreStored rows activations) (view : graph_with rows activations ≡ graph) (before after : TargetRow)
+      → before ≡ get_or rows to.0 before
       → (r : Result (Unit {0}) E) → OnOk r (after ≡ row_set before entries) → OnErr r (after ≡ before) → AreStored (set rows to.0 after) activations
   merged_stored rises rows activations stored view before after read (Ok done) is unchanged = (table_merged rises rows activations stored view before after read is).0
   merged_stored rises rows activations stored view before after read (Err error) is unchanged =
       let same : set rows to.0 after ≡ rows = ap (set rows to.0) (unchanged ∙ read) ∙ set-get_or rows to.0 before in
       subst (λ (rs : List TargetRow). AreStored rs activations) (sym same) stored
 
-  pub merged_table : {E : Type 0} → AreRising to entries → (rows : List TargetRow) (activations : List PointId) (stored : AreStored rows activations) (view : graph_with rows activations ≡ graph) (before after : TargetRow) → before ≡ get_or rows to.0 before
+  pub merged_table : {E : Type 0} → AreRising to entries → (rows : List TargetRow) (activations : List PointId) (stored : AreStored rows activations) (view : graph_with rows activations ≡ graph) (before after : TargetRow)
+      → before ≡ get_or rows to.0 before
       → (r : Result (Unit {0}) E) → OnOk r (after ≡ row_set before entries) → OnOk r (graph_with (set rows to.0 after) activations ≡ with_made graph made)
   merged_table rises rows activations stored view before after read (Ok done) is = (table_merged rises rows activations stored view before after read is).1
   merged_table rises rows activations stored view before after read (Err error) is = is

@@ -19,7 +19,7 @@ use Rattle.closure_model.proofs.Entries.{both, both_back}
 use Rattle.labelled_graph.specs.declared.entry.Entry.{Entry}
 use Rattle.closure_model.specs.declared.rows.Made.{Made}
 use Rattle.labelled_graph.specs.Entries.{edge_into, key_into}
-use Rattle.labelled_graph.specs.Merging.{IsMerged, IsMerging, IsNextOf, CanPutNext, edges_made, row_set, weights_set}
+use Rattle.labelled_graph.specs.MergedRows.{IsMerged, IsMerging, IsNextOf, CanPutNext, edges_made, row_set, weights_set}
 use Rattle.labelled_graph.specs.Rows.{TargetRow, keyed, row_with, AreRising, IsEntryAt, IsGapFor}
 use Rattle.labelled_graph.proofs.RowLemmas.{turned_less, rising_pair, put_at, put_gap, row_put}
 
@@ -122,13 +122,16 @@ module _ (to : PointId) where
         next = λ more next. subst (AreRising to) (sym (ap (λ (es : List Entry). es ++ more) after_is ∙ joined done left more entry i)) (rises_next done left more entry i can.rises next before);
       }
 
-  pub next_found : (done left after rest : List Entry) (entry : Entry) (i : ℕ) → CanPutNext to done left entry → IsEntryAt to left (key_into to entry) i → after ≡ done ++ take i left ++ entry ∷ [] → rest ≡ drop (i + 1) left → IsNextOf to done left entry after rest
+  pub next_found : (done left after rest : List Entry) (entry : Entry) (i : ℕ) → CanPutNext to done left entry → IsEntryAt to left (key_into to entry) i → after ≡ done ++ take i left ++ entry ∷ [] → rest ≡ drop (i + 1) left
+      → IsNextOf to done left entry after rest
   next_found done left after rest entry i can at after_is rest_is =
       let rises = rises_right done left can.rises in
       next_of done left after rest (set left i entry) entry i can (λ j d less inside. ap (key_cmp (key_into to (get_or left j d))) (sym (at.same d)) ∙ rising_pair to left rises j i d less at.inside) after_is
-      (joined done left rest entry i ∙ ap (λ (es : List Entry). done ++ (take i left ++ entry ∷ es)) (rest_is ∙ (let one : i + 1 ≡ suc i = omega arith in ap (λ (n : ℕ). drop n left) one)) ∙ ap (λ (es : List Entry). done ++ es) (sym (set_split left i entry at.inside))) (put_at to left i entry rises at)
+      (joined done left rest entry i ∙ ap (λ (es : List Entry). done ++ (take i left ++ entry ∷ es)) (rest_is ∙ (let one : i + 1 ≡ suc i = omega arith in ap (λ (n : ℕ). drop n left) one))
+      ∙ ap (λ (es : List Entry). done ++ es) (sym (set_split left i entry at.inside))) (put_at to left i entry rises at)
 
-  pub next_missed : (done left after rest : List Entry) (entry : Entry) (i : ℕ) → CanPutNext to done left entry → IsGapFor to left (key_into to entry) i → after ≡ done ++ take i left ++ entry ∷ [] → rest ≡ drop i left → IsNextOf to done left entry after rest
+  pub next_missed : (done left after rest : List Entry) (entry : Entry) (i : ℕ) → CanPutNext to done left entry → IsGapFor to left (key_into to entry) i → after ≡ done ++ take i left ++ entry ∷ [] → rest ≡ drop i left
+      → IsNextOf to done left entry after rest
   next_missed done left after rest entry i can gap after_is rest_is =
       next_of done left after rest (insert left i entry) entry i can (λ j d less inside. gap.lesser j d less) after_is
       (joined done left rest entry i ∙ ap (λ (es : List Entry). done ++ (take i left ++ entry ∷ es)) rest_is ∙ ap (λ (es : List Entry). done ++ es) (sym (insert_split left i entry gap.inside))) (put_gap to left i entry gap)
@@ -153,7 +156,8 @@ module _ (to : PointId) where
     rises = is.rises;
     row = is.row
         ∙ ap (λ (r : TargetRow). record { to = to; weights = weights_set to r.weights (get_or new i d) }) was.row
-        ∙ sym (ap (λ (es : List Entry). row_set (row_with to entries) es) (take_more new i d inside) ∙ ap (λ (m : map_of.FinMap key_cmp ℤ). record { to = to; weights = m }) (fold_push (weights_set to) (row_with to entries).weights (take i new) (get_or new i d)));
+        ∙ sym (ap (λ (es : List Entry). row_set (row_with to entries) es) (take_more new i d inside) ∙ ap (λ (m : map_of.FinMap key_cmp ℤ). record { to = to; weights = m })
+        (fold_push (weights_set to) (row_with to entries).weights (take i new) (get_or new i d)));
     next = is.next (drop (i + 1) new) (subst (λ (es : List Entry). AreRising to (all ++ es)) (drop_more new i d inside) was.next);
   }
 

@@ -14,9 +14,9 @@ use Rattle.closure_model.specs.Keys.{Key, key_of, ordinary_key}
 use Rattle.closure_model.proofs.KeyOrder.{key_test, key_total, test_apart}
 use Rattle.labelled_graph.specs.declared.entry.Entry.{Entry}
 use Rattle.labelled_graph.specs.Entries.{key_into}
-use Rattle.labelled_graph.specs.Merging.{row_set, weights_set, word_set, words_set, IsMerged}
-use Rattle.labelled_graph.specs.Rows.{TargetRow, row_with, mirrored, mirrored_for, AllFitIn, AreRising, IsKept, IsMirrorOf}
-use Rattle.labelled_graph.specs.Words.{absent, held, least_word, word_of, IsTold, MeetsHeld}
+use Rattle.labelled_graph.specs.MergedRows.{row_set, weights_set, word_set, words_set, IsMerged}
+use Rattle.labelled_graph.specs.Rows.{TargetRow, row_with, mirrored, mirrored_for, AllFitIn, AreRising, IsKeptRow, IsMirrorOf}
+use Rattle.labelled_graph.specs.Words.{absent, held, least_word, word_of, IsRecorded, SaturatesHeld}
 use Rattle.labelled_graph.proofs.MergeLemmas.{row_of_entries}
 use Rattle.labelled_graph.proofs.StoredLemmas.{same_point, IsChangedAt}
 use Rattle.std.specs.FinMap.{get-from_sorted}
@@ -57,21 +57,22 @@ module _ (row after : TargetRow) (words : List (Option ℤ)) (mirror : IsMirrorO
   mirror_changed = mirror_for key.label refl
 
 -- what is kept of a row after one key of it was changed
-pub kept_after : (to : PointId) (xs ys : List Entry) (words new : List (Option ℤ)) (row after : TargetRow) (key : Key) (o : Option ℤ) → IsKept to xs words → row_with to xs ≡ row → AreRising to ys → row_with to ys ≡ after
-    → key.to ≡ row.to → after.to ≡ row.to → IsChangedAt key o row after → new ≡ mirrored words key o → IsKept to ys new
+pub kept_after : (to : PointId) (xs ys : List Entry) (words new : List (Option ℤ)) (row after : TargetRow) (key : Key) (o : Option ℤ) → IsKeptRow to xs words → row_with to xs ≡ row → AreRising to ys → row_with to ys ≡ after
+    → key.to ≡ row.to → after.to ≡ row.to → IsChangedAt key o row after → new ≡ mirrored words key o → IsKeptRow to ys new
 kept_after to xs ys words new row after key o kept view rises view_after of_row ends gets is = record {
   rises = rises;
   mirror = subst (λ (r : TargetRow). IsMirrorOf r new) (sym view_after)
       (subst (IsMirrorOf after) (sym is) (mirror_changed row after words (subst (λ (r : TargetRow). IsMirrorOf r words) view kept.mirror) key o of_row ends gets));
 }
 
-pub kept_set : (to : PointId) (xs ys : List Entry) (words new : List (Option ℤ)) (row : TargetRow) (edge : Edge) → IsKept to xs words → row_with to xs ≡ row → edge.to ≡ row.to
-    → AreRising to ys × (row_with to ys ≡ record row { weights = map_of.insert row.weights (key_of edge) edge.weight }) → new ≡ mirrored words (key_of edge) (Some edge.weight) → IsKept to ys new
+pub kept_set : (to : PointId) (xs ys : List Entry) (words new : List (Option ℤ)) (row : TargetRow) (edge : Edge) → IsKeptRow to xs words → row_with to xs ≡ row → edge.to ≡ row.to
+    → AreRising to ys × (row_with to ys ≡ record row { weights = map_of.insert row.weights (key_of edge) edge.weight }) → new ≡ mirrored words (key_of edge) (Some edge.weight) → IsKeptRow to ys new
 kept_set to xs ys words new row edge kept view ends (rises, is) written =
-    kept_after to xs ys words new row (record row { weights = map_of.insert row.weights (key_of edge) edge.weight }) (key_of edge) (Some edge.weight) kept view rises is ends refl (map_of.get-insert key_total row.weights (key_of edge) edge.weight) written
+    kept_after to xs ys words new row (record row { weights = map_of.insert row.weights (key_of edge) edge.weight }) (key_of edge) (Some edge.weight) kept view rises is ends refl
+    (map_of.get-insert key_total row.weights (key_of edge) edge.weight) written
 
-pub kept_gone : (to : PointId) (xs ys : List Entry) (words new : List (Option ℤ)) (row : TargetRow) (edge : Edge) → IsKept to xs words → row_with to xs ≡ row → edge.to ≡ row.to
-    → AreRising to ys × (row_with to ys ≡ record row { weights = map_of.remove row.weights (key_of edge) }) → new ≡ mirrored words (key_of edge) None → IsKept to ys new
+pub kept_gone : (to : PointId) (xs ys : List Entry) (words new : List (Option ℤ)) (row : TargetRow) (edge : Edge) → IsKeptRow to xs words → row_with to xs ≡ row → edge.to ≡ row.to
+    → AreRising to ys × (row_with to ys ≡ record row { weights = map_of.remove row.weights (key_of edge) }) → new ≡ mirrored words (key_of edge) None → IsKeptRow to ys new
 kept_gone to xs ys words new row edge kept view ends (rises, is) erased =
     kept_after to xs ys words new row (record row { weights = map_of.remove row.weights (key_of edge) }) (key_of edge) None kept view rises is ends refl (map_of.get-remove key_total row.weights (key_of edge)) erased
 
@@ -83,8 +84,8 @@ mirror_set row words (entry ∷ new) mirror =
     mirror_set after (word_set words entry) new
     (mirror_changed row after words mirror (key_into row.to entry) (Some entry.weight) refl refl (map_of.get-insert key_total row.weights (key_into row.to entry) entry.weight))
 
-pub kept_merged : (to : PointId) (xs ys read new : List Entry) (words after : List (Option ℤ)) (row : TargetRow) → IsKept to xs words → row_with to xs ≡ row → AreRising row.to new → read ≡ xs
-    → ((t : PointId) → AreRising t read → AreRising t new → IsMerged t read new ys) → after ≡ words_set words new → IsKept to ys after
+pub kept_merged : (to : PointId) (xs ys read new : List Entry) (words after : List (Option ℤ)) (row : TargetRow) → IsKeptRow to xs words → row_with to xs ≡ row → AreRising row.to new → read ≡ xs
+    → ((t : PointId) → AreRising t read → AreRising t new → IsMerged t read new ys) → after ≡ words_set words new → IsKeptRow to ys after
 kept_merged to xs ys read new words after row kept view rises is merged written =
     let target : row.to ≡ to = sym (ap (λ (r : TargetRow). r.to) view) in
     let whole : IsMerged to xs new ys =
@@ -94,7 +95,8 @@ kept_merged to xs ys read new words after row kept view rises is merged written 
       mirror = subst (λ (r : TargetRow). IsMirrorOf r after) (sym whole.row) (subst (IsMirrorOf (row_set (row_with to xs) new)) (sym written) (mirror_set (row_with to xs) words new kept.mirror));
     }
 
-pub row_merged : (to : PointId) (xs ys read new : List Entry) (words : List (Option ℤ)) (row : TargetRow) → IsKept to xs words → row_with to xs ≡ row → AreRising row.to new → read ≡ xs → ((t : PointId) → AreRising t read → AreRising t new → IsMerged t read new ys)
+pub row_merged : (to : PointId) (xs ys read new : List Entry) (words : List (Option ℤ)) (row : TargetRow) → IsKeptRow to xs words → row_with to xs ≡ row → AreRising row.to new → read ≡ xs
+    → ((t : PointId) → AreRising t read → AreRising t new → IsMerged t read new ys)
     → row_with to ys ≡ row_set row new
 row_merged to xs ys read new words row kept view rises is merged =
     let target : row.to ≡ to = sym (ap (λ (r : TargetRow). r.to) view) in
@@ -108,7 +110,8 @@ same_at o zero k = refl
 same_at o (suc points) zero = refl
 same_at o (suc points) (suc k) = same_at o points k
 
-pub mirror_of_all : (to : PointId) (xs read : List Entry) (points : ℕ) (words after : List (Option ℤ)) (row : TargetRow) → row_with to xs ≡ row → AreRising to xs → read ≡ xs → words ≡ replicate points None → after ≡ words_set words read → IsMirrorOf row after
+pub mirror_of_all : (to : PointId) (xs read : List Entry) (points : ℕ) (words after : List (Option ℤ)) (row : TargetRow) → row_with to xs ≡ row → AreRising to xs → read ≡ xs → words ≡ replicate points None → after ≡ words_set words read
+    → IsMirrorOf row after
 mirror_of_all to xs read points words after row view rises is none written =
     subst (IsMirrorOf row) (sym (written ∙ (λ i. words_set (none i) (is i))))
     (subst (λ (r : TargetRow). IsMirrorOf r (words_set (replicate points None) xs)) (sym (row_of_entries to xs rises) ∙ view) (mirror_set (row_with to []) (replicate points None) xs begins))
@@ -118,20 +121,20 @@ mirror_of_all to xs read points words after row view rises is none written =
         let has : map_of.get (row_with to []).weights (ordinary_key from to) ≡ None = get-from_sorted key_cmp [] (ordinary_key from to) tt in
         same_at None points from.0 ∙ sym (ap (λ (o : Option ℤ). held (word_of o)) has)
 
--- ---- what does not fall
-pub meets_in : (row : TargetRow) (words : List (Option ℤ)) (first : PointId) (there : Option ℤ) (weight : ℤ) → IsMirrorOf row words → AllFitIn row → first.0 < length words → MeetsHeld (get_or words first.0 None) there weight
-    → MeetsHeld (map_of.get row.weights (ordinary_key first row.to)) there weight
-meets_in row words first there weight mirror fits inside meets = by (map_of.get row.weights (ordinary_key first row.to)) refl (subst (λ (o : Option ℤ). MeetsHeld o there weight) (mirror first inside) meets)
+-- ---- what does not improve
+pub meets_in : (row : TargetRow) (words : List (Option ℤ)) (first : PointId) (there : Option ℤ) (weight : ℤ) → IsMirrorOf row words → AllFitIn row → first.0 < length words → SaturatesHeld (get_or words first.0 None) there weight
+    → SaturatesHeld (map_of.get row.weights (ordinary_key first row.to)) there weight
+meets_in row words first there weight mirror fits inside saturates = by (map_of.get row.weights (ordinary_key first row.to)) refl (subst (λ (o : Option ℤ). SaturatesHeld o there weight) (mirror first inside) saturates)
   where
-    by : (o : Option ℤ) → map_of.get row.weights (ordinary_key first row.to) ≡ o → MeetsHeld (held (word_of (map_of.get row.weights (ordinary_key first row.to)))) there weight → MeetsHeld o there weight
-    by None is meets = tt
-    by (Some w) is meets = subst (λ (o : Option ℤ). MeetsHeld o there weight) (ap (λ (h : Option ℤ). held (word_of h)) is ∙ word_of_same w (fits (ordinary_key first row.to) w is)) meets
+    by : (o : Option ℤ) → map_of.get row.weights (ordinary_key first row.to) ≡ o → SaturatesHeld (held (word_of (map_of.get row.weights (ordinary_key first row.to)))) there weight → SaturatesHeld o there weight
+    by None is saturates = tt
+    by (Some w) is saturates = subst (λ (o : Option ℤ). SaturatesHeld o there weight) (ap (λ (h : Option ℤ). held (word_of h)) is ∙ word_of_same w (fits (ordinary_key first row.to) w is)) saturates
 
--- ---- what a word tells
+-- ---- what a word gives
 -- what holds a weight above the least word stands for that weight alone
-told_once : (o : Option ℤ) (weight : ℤ) → held (word_of o) ≡ Some weight → least_word <ℤ weight → o ≡ Some weight
-told_once None weight is above = absurd cc
-told_once (Some w) weight is above = by (int_lt w least_word) refl (int_lt absent w) refl is
+stated_once : (o : Option ℤ) (weight : ℤ) → held (word_of o) ≡ Some weight → least_word <ℤ weight → o ≡ Some weight
+stated_once None weight is above = absurd cc
+stated_once (Some w) weight is above = by (int_lt w least_word) refl (int_lt absent w) refl is
   where
     by : (low : Bool) → int_lt w least_word ≡ low → (high : Bool) → int_lt absent w ≡ high → held (cond low least_word (cond high absent w)) ≡ Some weight → Some w ≡ Some weight
     by true low high is_high is = let same : least_word ≡ weight = same_weight least_word weight is in absurd (grind (arith, ints))
@@ -142,5 +145,5 @@ told_once (Some w) weight is above = by (int_lt w least_word) refl (int_lt absen
         by_end true gone is = absurd cc
         by_end false gone is = is
 
-pub mirror_told : (row : TargetRow) (words : List (Option ℤ)) (from : PointId) (weight : ℤ) → IsMirrorOf row words → IsTold words from.0 weight → map_of.get row.weights (ordinary_key from row.to) ≡ Some weight
-mirror_told row words from weight mirror told = told_once (map_of.get row.weights (ordinary_key from row.to)) weight (sym (mirror from told.inside) ∙ told.has) told.above
+pub mirror_recorded : (row : TargetRow) (words : List (Option ℤ)) (from : PointId) (weight : ℤ) → IsMirrorOf row words → IsRecorded words from.0 weight → map_of.get row.weights (ordinary_key from row.to) ≡ Some weight
+mirror_recorded row words from weight mirror recorded = stated_once (map_of.get row.weights (ordinary_key from row.to)) weight (sym (mirror from recorded.inside) ∙ recorded.has) recorded.above

@@ -170,7 +170,8 @@ module _ (to : PointId) where
       ∙ sym (ap (λ r. cond (not (is_eq r)) (keyed to x ∷ rest) rest) (turned_less (key_into to x) key (first_below x xs key i rises at)))
 
   -- ---- the row of entries
-  pub row_put : (xs ys : List Entry) (key : Key) (w : ℤ) → AreRising to xs → map (keyed to) ys ≡ put key_cmp key w (map (keyed to) xs) → AreRising to ys × (row_with to ys ≡ record { to = to; weights = map_of.insert (row_with to xs).weights key w })
+  pub row_put : (xs ys : List Entry) (key : Key) (w : ℤ) → AreRising to xs → map (keyed to) ys ≡ put key_cmp key w (map (keyed to) xs)
+      → AreRising to ys × (row_with to ys ≡ record { to = to; weights = map_of.insert (row_with to xs).weights key w })
   row_put xs ys key w rises is = (rising, λ i. record { to = to; weights = same i })
     where
       rising : AreRising to ys
@@ -183,7 +184,8 @@ module _ (to : PointId) where
           ∙ is
           ∙ sym (entries-insert key_total (map_of.from_sorted (map (keyed to) xs)) key w ∙ ap (put key_cmp key w) (entries-from_sorted key_cmp (map (keyed to) xs) rises)))
 
-  row_without : (xs ys : List Entry) (key : Key) → AreRising to xs → map (keyed to) ys ≡ where_key key_cmp (others key) (map (keyed to) xs) → AreRising to ys × (row_with to ys ≡ record { to = to; weights = map_of.remove (row_with to xs).weights key })
+  row_without : (xs ys : List Entry) (key : Key) → AreRising to xs → map (keyed to) ys ≡ where_key key_cmp (others key) (map (keyed to) xs)
+      → AreRising to ys × (row_with to ys ≡ record { to = to; weights = map_of.remove (row_with to xs).weights key })
   row_without xs ys key rises is = (rising, λ i. record { to = to; weights = same i })
     where
       rising : AreRising to ys
@@ -241,7 +243,8 @@ module _ (to : PointId) (xs : List Entry) (row : TargetRow) (view : row_with to 
   get_missed : (key : Key) (i : ℕ) → IsGapFor to xs key i → map_of.get row.weights key ≡ None
   get_missed key i gap = ap (λ (m : map_of.FinMap key_cmp ℤ). map_of.get m key) (sym weights) ∙ get-from_sorted key_cmp (map (keyed to) xs) key rises ∙ find_gap to xs i key gap
 
-  pub read_found : (from : PointId) (label : Option LinkId) (i : ℕ) (d : Entry) → ((t : PointId) → AreRising t searched → IsPlaceOf t searched (key_with t from label) (Ok i)) → Some (get_or xs i d).weight ≡ map_of.get row.weights (key_with row.to from label)
+  pub read_found : (from : PointId) (label : Option LinkId) (i : ℕ) (d : Entry) → ((t : PointId) → AreRising t searched → IsPlaceOf t searched (key_with t from label) (Ok i))
+      → Some (get_or xs i d).weight ≡ map_of.get row.weights (key_with row.to from label)
   read_found from label i d place = sym (get_found (key_with row.to from label) i d (found (Ok i) (key_with row.to from label) place refl))
 
   pub read_missed : (from : PointId) (label : Option LinkId) (i : ℕ) → ((t : PointId) → AreRising t searched → IsPlaceOf t searched (key_with t from label) (Err i)) → None ≡ map_of.get row.weights (key_with row.to from label)
@@ -260,14 +263,17 @@ module _ (to : PointId) (xs : List Entry) (row : TargetRow) (view : row_with to 
         let (rising, same) = row_put to xs ys (key_of edge) edge.weight rises (put_there ∙ (λ i. put key_cmp (stands i) (weighs i) (map (keyed to) xs))) in
         (rising, same ∙ (λ i. record { to = target i; weights = map_of.insert (weights i) (key_of edge) edge.weight }))
 
-    pub set_found : (i : ℕ) → ((t : PointId) → AreRising t searched → IsPlaceOf t searched (key_with t edge.from edge.label) (Ok i)) → AreRising to (set xs i x) × (row_with to (set xs i x) ≡ record row { weights = map_of.insert row.weights (key_of edge) edge.weight })
+    pub set_found : (i : ℕ) → ((t : PointId) → AreRising t searched → IsPlaceOf t searched (key_with t edge.from edge.label) (Ok i))
+        → AreRising to (set xs i x) × (row_with to (set xs i x) ≡ record row { weights = map_of.insert row.weights (key_of edge) edge.weight })
     set_found i place = put_in (set xs i x) (put_at to xs i x rises (subst (λ (q : Key). IsEntryAt to xs q i) (sym stands) (found (Ok i) (key_of edge) place ends)))
 
-    pub set_missed : (i : ℕ) → ((t : PointId) → AreRising t searched → IsPlaceOf t searched (key_with t edge.from edge.label) (Err i)) → (ys : List Entry) → ys ≡ insert xs i x → AreRising to ys × (row_with to ys ≡ record row { weights = map_of.insert row.weights (key_of edge) edge.weight })
+    pub set_missed : (i : ℕ) → ((t : PointId) → AreRising t searched → IsPlaceOf t searched (key_with t edge.from edge.label) (Err i)) → (ys : List Entry) → ys ≡ insert xs i x
+        → AreRising to ys × (row_with to ys ≡ record row { weights = map_of.insert row.weights (key_of edge) edge.weight })
     set_missed i place ys are = put_in ys (ap (map (keyed to)) are ∙ put_gap to xs i x (subst (λ (q : Key). IsGapFor to xs q i) (sym stands) (found (Err i) (key_of edge) place ends)))
 
   module _ (edge : Edge) (ends : edge.to ≡ row.to) (i : ℕ) where
-    pub gone_found : ((t : PointId) → AreRising t searched → IsPlaceOf t searched (key_with t edge.from edge.label) (Ok i)) → (ys : List Entry) → ys ≡ remove xs i → AreRising to ys × (row_with to ys ≡ record row { weights = map_of.remove row.weights (key_of edge) })
+    pub gone_found : ((t : PointId) → AreRising t searched → IsPlaceOf t searched (key_with t edge.from edge.label) (Ok i)) → (ys : List Entry) → ys ≡ remove xs i
+        → AreRising to ys × (row_with to ys ≡ record row { weights = map_of.remove row.weights (key_of edge) })
     gone_found place ys are =
         let (rising, same) = row_without to xs ys (key_of edge) rises (ap (map (keyed to)) are ∙ remove_at to xs i (key_of edge) rises (found (Ok i) (key_of edge) place ends)) in
         (rising, same ∙ (λ j. record { to = target j; weights = map_of.remove (weights j) (key_of edge) }))

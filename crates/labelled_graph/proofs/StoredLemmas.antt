@@ -1,5 +1,6 @@
 -- What the rows of a table have for a key, before and after one row is changed.
-use Rattle.std.proofs.Common.{◌≡◌, ◌≢◌, ℕ, zero, suc, ◌+◌, ◌==◌, ◌<◌, ◌≤◌, ◌^◌, ℤ, Bool, true, false, cond, not, List, [], length, map, get_or, set, get_or-set_same, get_or-set_other, length-set, take, Option, Some, None, Result, Ok, Err, refl, ap, sym, subst, ◌∙◌, arith}
+use Rattle.std.proofs.Common.{◌≡◌, ◌≢◌, ℕ, zero, suc, ◌+◌, ◌==◌, ◌<◌, ◌≤◌, ◌^◌, ℤ, Bool, true, false, cond, not, List, [], length, map, get_or, set, get_or-set_same, get_or-set_other, length-set, take, Option, Some, None, Result, Ok, Err}
+use Rattle.std.proofs.Common.{refl, ap, sym, subst, ◌∙◌, arith}
 use Rattle.std.specs.Prelude.{slice_get, IfSome, IsSome, OnErr}
 use Rattle.std.specs.List.{All, range_with_len}
 use Rattle.std.specs.Ordering.{eq_by_cmp}
@@ -21,13 +22,13 @@ use Rattle.closure_model.specs.Tables.{Graph, weight_of, with_edge, without_key,
 use Rattle.closure_model.proofs.BaseLemmas.{base_shape, base_sound}
 use Rattle.closure_model.proofs.KeyOrder.{key_test, key_total, test_apart}
 use Rattle.closure_model.proofs.TableLemmas.{no_edges-has_none, weight_of-with_edge, weight_of-without_key}
-use Rattle.closure_model.proofs.Tabulated.{dense_map, get-dense_in, is_dense}
-use Rattle.closure_model.proofs.Listed.{nothing_elsewhere}
+use Rattle.closure_model.proofs.KeyMaps.{dense_map, get-dense_in, is_dense}
+use Rattle.closure_model.proofs.ListedEdges.{nothing_elsewhere}
 use Rattle.closure_model.proofs.SoundTables.{IsGraph-with_edge, IsGraph-without_key}
 use Rattle.labelled_graph.specs.Changes.{with_weight}
-use Rattle.labelled_graph.specs.Merging.{no_shape}
+use Rattle.labelled_graph.specs.MergedRows.{no_shape}
 use Rattle.labelled_graph.specs.Rows.{TargetRow, no_row, empty_row}
-use Rattle.labelled_graph.specs.Stored.{shape_with, at_key, graph_with, AreStored}
+use Rattle.labelled_graph.specs.StoredRows.{shape_with, at_key, graph_with, AreStored}
 
 -- ---- reading
 pub weight_at : (rows : List TargetRow) (activations : List PointId) (key : Key) → IsKey (shape_with rows activations) key → weight_of (graph_with rows activations) key ≡ at_key rows key
@@ -38,7 +39,7 @@ pub same_point : (p q : PointId) → p.0 ≡ q.0 → p ≡ q
 same_point p q is = ap (λ (k : ℕ). record { 0 = k }) is
 
 -- ---- the table with one key changed
--- a table is another with one key changed where it is for the same points and links and has that at each key
+-- a table is another with one key changed if it is for the same points and links and has that at each key
 module _ (rows new : List TargetRow) (activations : List PointId) (sound : IsGraph (graph_with rows activations)) (key : Key) (is_key : IsKey (shape_with rows activations) key) (o : Option ℤ) (same : length new ≡ length rows)
     (changed : (q : Key) → at_key new q ≡ cond (eq_by_cmp key_cmp q key) o (at_key rows q)) where
   graph_changed : (graph : Graph) → graph.shape ≡ shape_with rows activations → ((q : Key) → weight_of graph q ≡ cond (eq_by_cmp key_cmp q key) o (weight_of (graph_with rows activations) q)) → graph_with new activations ≡ graph
@@ -232,13 +233,14 @@ module _ (rows : List TargetRow) (activations : List PointId) (stored : AreStore
       one_changed key is None tt before after read (ap (λ (r : TargetRow). r.to) gone_is) (λ q. ap (λ (r : TargetRow). map_of.get r.weights q) gone_is ∙ map_of.get-remove key_total before.weights key q)
 
 -- rows of which one was written as it was store what they did
-pub none_set : (rows : List TargetRow) (activations : List PointId) → AreStored rows activations → (graph : Graph) → graph_with rows activations ≡ graph → (place : ℕ) (before after : TargetRow) → before ≡ get_or rows place before → after ≡ before
+pub none_set : (rows : List TargetRow) (activations : List PointId) → AreStored rows activations → (graph : Graph) → graph_with rows activations ≡ graph → (place : ℕ) (before after : TargetRow) → before ≡ get_or rows place before
+    → after ≡ before
     → AreTableOf (set rows place after) activations graph
 none_set rows activations stored graph view place before after read is =
     let same : set rows place after ≡ rows = ap (set rows place) (is ∙ read) ∙ set-get_or rows place before in
     subst (λ (rs : List TargetRow). AreTableOf rs activations graph) (sym same) (stored, view)
 
--- what holds also holds where an answer is an error
+-- what holds also holds if an answer is an error
 pub on_error : {A E P : Type 0} → P → (r : Result A E) → OnErr r P
 on_error holds (Ok done) = tt
 on_error holds (Err error) = holds
@@ -291,14 +293,16 @@ module _ (shape : Shape) (begins : All (λ (p : PointId). p.0 < shape.points) sh
       nowhere : (k : ℕ) (d : TargetRow) → k < length (map empty_row (range_with_len 0 shape.points)) → (key : Key) (w : ℤ) → map_of.get (get_or (map empty_row (range_with_len 0 shape.points)) k d).weights key ≡ Some w → ⊥
       nowhere k d inside key w has =
           let none : map_of.get (get_or (map empty_row (range_with_len 0 shape.points)) k d).weights key ≡ None =
-          ap (λ (r : TargetRow). map_of.get r.weights key) (get_or_default (map empty_row (range_with_len 0 shape.points)) k d no_row inside) ∙ ap (λ (m : map_of.FinMap key_cmp ℤ). map_of.get m key) (nothing_in 0 shape.points k) ∙ map_of.get-empty key_cmp key in
+          ap (λ (r : TargetRow). map_of.get r.weights key) (get_or_default (map empty_row (range_with_len 0 shape.points)) k d no_row inside) ∙ ap (λ (m : map_of.FinMap key_cmp ℤ). map_of.get m key) (nothing_in 0 shape.points k)
+          ∙ map_of.get-empty key_cmp key in
           absurd cc
 
       same : shape_with (map empty_row (range_with_len 0 shape.points)) shape.activations ≡ shape
       same = λ i. record { points = length-map-range_with_len empty_row 0 shape.points i; activations = shape.activations }
 
       empty : dense_map (shape_with (map empty_row (range_with_len 0 shape.points)) shape.activations) (at_key (map empty_row (range_with_len 0 shape.points))) ≡ map_of.empty
-      empty = is_dense (shape_with (map empty_row (range_with_len 0 shape.points)) shape.activations) (at_key (map empty_row (range_with_len 0 shape.points))) map_of.empty (λ key in_shape. map_of.get-empty key_cmp key ∙ sym (nothing key)) (λ key out. map_of.get-empty key_cmp key)
+      empty = is_dense (shape_with (map empty_row (range_with_len 0 shape.points)) shape.activations) (at_key (map empty_row (range_with_len 0 shape.points))) map_of.empty (λ key in_shape. map_of.get-empty key_cmp key ∙ sym (nothing key))
+          (λ key out. map_of.get-empty key_cmp key)
 
       is : graph_with (map empty_row (range_with_len 0 shape.points)) shape.activations ≡ no_edges shape
       is = λ i. record { shape = same i; weights = empty i }

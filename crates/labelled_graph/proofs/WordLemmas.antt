@@ -5,7 +5,7 @@ use Rattle.std.specs.Prelude.{IsSomeAnd, int_lt}
 use Rattle.std.specs.Int.{int_max, int_min}
 use Rattle.std.specs.Ordering.{int_eq}
 use Rattle.std.proofs.lemmas.Int.{ints, int_max_is}
-use Rattle.labelled_graph.specs.Words.{absent, least_word, held, word_of, FitsWord, MeetsHeld}
+use Rattle.labelled_graph.specs.Words.{absent, least_word, held, word_of, FitsWord, SaturatesHeld}
 
 -- a word of a weight that it may hold is that weight
 held-weight : (weight : ℤ) → FitsWord weight → held weight ≡ Some weight
@@ -26,25 +26,27 @@ absent_row points words is = ap (map held) is ∙ by points
 pub row_with : (words : List ℤ) (row : List (Option ℤ)) (place : ℕ) (word weight : ℤ) → map held words ≡ row → word ≡ weight → FitsWord weight → map held (slice_set words place word) ≡ slice_set row place (Some weight)
 row_with words row place word weight view same small = map_held-set words place word ∙ (λ i. slice_set (view i) place ((ap held same ∙ held-weight weight small) i))
 
--- ---- what does not fall
-pub meets_absent : (first there weight : ℤ) → first ≡ absent → MeetsHeld (held first) (held there) weight
-meets_absent first there weight gone = let none : int_eq first absent ≡ true = grind (arith, ints) in subst (λ (b : Bool). MeetsHeld (cond b None (Some first)) (held there) weight) (sym none) tt
+-- ---- what does not improve
+pub meets_absent : (first there weight : ℤ) → first ≡ absent → SaturatesHeld (held first) (held there) weight
+meets_absent first there weight gone = let none : int_eq first absent ≡ true = grind (arith, ints) in subst (λ (b : Bool). SaturatesHeld (cond b None (Some first)) (held there) weight) (sym none) tt
 
-pub meets_present : (first there weight : ℤ) → weight <ℤ pos 0 → first <ℤ absent → there ≤ℤ (int_max first (pos 0) +ℤ weight) → MeetsHeld (held first) (held there) weight
+pub meets_present : (first there weight : ℤ) → weight <ℤ pos 0 → first <ℤ absent → there ≤ℤ (int_max first (pos 0) +ℤ weight) → SaturatesHeld (held first) (held there) weight
 meets_present first there weight negative below met =
     let some : int_eq first absent ≡ false = grind (arith, ints) in
     let lower : int_eq there absent ≡ false = grind (arith, ints, int_max_is) in
-    subst (λ (b : Bool). MeetsHeld (cond b None (Some first)) (held there) weight) (sym some)
+    subst (λ (b : Bool). SaturatesHeld (cond b None (Some first)) (held there) weight) (sym some)
     (subst (λ (b : Bool). IsSomeAnd (cond b None (Some there)) (λ (u : ℤ). u ≤ℤ (int_max first (pos 0) +ℤ weight))) (sym lower) met)
 
--- what goes no lower than the lesser of a word and of the limit is met: no weight comes to the limit, and any other below it
-pub falls_under : (first there weight : ℤ) (falls : Bool) → falls ≡ int_lt (int_max first (pos 0) +ℤ weight) (int_min there (absent +ℤ weight)) → weight <ℤ pos 0 → first ≤ℤ absent → falls ≡ false → MeetsHeld (held first) (held there) weight
-falls_under first there weight falls is negative most none = by (int_eq first absent) refl
+-- what is not below the lesser of a word and of the limit is saturated: the word of no weight gives the limit, and any other word a number
+-- below it
+pub improves_under : (first there weight : ℤ) (descends : Bool) → descends ≡ int_lt (int_max first (pos 0) +ℤ weight) (int_min there (absent +ℤ weight)) → weight <ℤ pos 0 → first ≤ℤ absent → descends ≡ false
+    → SaturatesHeld (held first) (held there) weight
+improves_under first there weight descends is negative most none = by (int_eq first absent) refl
   where
     low : int_lt (int_max first (pos 0) +ℤ weight) (int_min there (absent +ℤ weight)) ≡ false
     low = sym is ∙ none
 
-    by : (gone : Bool) → int_eq first absent ≡ gone → MeetsHeld (held first) (held there) weight
+    by : (gone : Bool) → int_eq first absent ≡ gone → SaturatesHeld (held first) (held there) weight
     by true gone = meets_absent first there weight (grind (arith, ints))
     by false gone = meets_present first there weight negative below (least (int_lt (absent +ℤ weight) there) low)
       where
@@ -64,27 +66,27 @@ held_at (w ∷ words) zero below = refl
 held_at (w ∷ words) (suc k) below = held_at words k (omega (arith, below))
 
 pub row_meets : (firsts there : List ℤ) (row other : List (Option ℤ)) (from end : ℕ) (weight : ℤ) → map held firsts ≡ row → map held there ≡ other → end ≤ length firsts → end ≤ length there
-    → ((k : ℕ) → from ≤ k → k < end → MeetsHeld (held (get_or firsts k (pos 0))) (held (get_or there k (pos 0))) weight) → (k : ℕ) → from ≤ k → k < end → MeetsHeld (get_or row k None) (get_or other k None) weight
-row_meets firsts there row other from end weight one two few fewer meets k after below =
-    subst (λ (r : List (Option ℤ)). MeetsHeld (get_or r k None) (get_or other k None) weight) one
-    (subst (λ (r : List (Option ℤ)). MeetsHeld (get_or (map held firsts) k None) (get_or r k None) weight) two
-    (subst (λ (o : Option ℤ). MeetsHeld o (get_or (map held there) k None) weight) (sym (held_at firsts k (omega (arith, below, few))))
-    (subst (λ (o : Option ℤ). MeetsHeld (held (get_or firsts k (pos 0))) o weight) (sym (held_at there k (omega (arith, below, fewer)))) (meets k after below))))
+    → ((k : ℕ) → from ≤ k → k < end → SaturatesHeld (held (get_or firsts k (pos 0))) (held (get_or there k (pos 0))) weight) → (k : ℕ) → from ≤ k → k < end → SaturatesHeld (get_or row k None) (get_or other k None) weight
+row_meets firsts there row other from end weight one two few fewer saturates k after below =
+    subst (λ (r : List (Option ℤ)). SaturatesHeld (get_or r k None) (get_or other k None) weight) one
+    (subst (λ (r : List (Option ℤ)). SaturatesHeld (get_or (map held firsts) k None) (get_or r k None) weight) two
+    (subst (λ (o : Option ℤ). SaturatesHeld o (get_or (map held there) k None) weight) (sym (held_at firsts k (omega (arith, below, few))))
+    (subst (λ (o : Option ℤ). SaturatesHeld (held (get_or firsts k (pos 0))) o weight) (sym (held_at there k (omega (arith, below, fewer)))) (saturates k after below))))
 
 abbrev pub AreMet : (firsts there : List ℤ) (from end : ℕ) (weight : ℤ) → Type 0
-AreMet firsts there from end weight = (k : ℕ) → from ≤ k → k < end → MeetsHeld (held (get_or firsts k (pos 0))) (held (get_or there k (pos 0))) weight
+AreMet firsts there from end weight = (k : ℕ) → from ≤ k → k < end → SaturatesHeld (held (get_or firsts k (pos 0))) (held (get_or there k (pos 0))) weight
 
 pub one_more : (firsts there : List ℤ) (from place : ℕ) (weight : ℤ) (before one : Bool) → (before ≡ false → AreMet firsts there from place weight)
-    → (one ≡ false → MeetsHeld (held (get_or firsts place (pos 0))) (held (get_or there place (pos 0))) weight) → (before || one) ≡ false → AreMet firsts there from (place + 1) weight
+    → (one ≡ false → SaturatesHeld (held (get_or firsts place (pos 0))) (held (get_or there place (pos 0))) weight) → (before || one) ≡ false → AreMet firsts there from (place + 1) weight
 one_more firsts there from place weight true one all here none k after below = absurd cc
 one_more firsts there from place weight false one all here none k after below = by (cases k place below)
   where
     cases : (k n : ℕ) → k < n + 1 → (k < n) ⊎ (k ≡ n)
     cases k n below = grind arith
 
-    by : (k < place) ⊎ (k ≡ place) → MeetsHeld (held (get_or firsts k (pos 0))) (held (get_or there k (pos 0))) weight
+    by : (k < place) ⊎ (k ≡ place) → SaturatesHeld (held (get_or firsts k (pos 0))) (held (get_or there k (pos 0))) weight
     by (inl less) = all refl k after less
-    by (inr same) = subst (λ (n : ℕ). MeetsHeld (held (get_or firsts n (pos 0))) (held (get_or there n (pos 0))) weight) (sym same) (here none)
+    by (inr same) = subst (λ (n : ℕ). SaturatesHeld (held (get_or firsts n (pos 0))) (held (get_or there n (pos 0))) weight) (sym same) (here none)
 
 -- ---- the nearest words
 -- what the nearest word of a weight that fits holds is that weight

@@ -1,6 +1,6 @@
 pub mod Entries
 pub mod Rows
-pub mod Stored
+pub mod StoredRows
 pub mod Changes
 pub mod Words
-pub mod Merging
+pub mod MergedRows

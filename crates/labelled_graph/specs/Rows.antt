@@ -18,8 +18,10 @@ pub record TargetRow : Type 0 where
   pub to : PointId
   pub weights : map_of.FinMap key_cmp ℤ
 
+-- a row as data
 abbrev pub row_code : Coded TargetRow
-row_code = code_by (PointId × map_of.FinMap key_cmp ℤ) (coded× point_code (map_of.code key_code coded_ℤ)) (λ row. (row.to, row.weights)) (λ parts. record { to = parts.0; weights = parts.1 }) (λ _. refl)
+row_code = code_by (PointId × map_of.FinMap key_cmp ℤ) (coded× point_code (map_of.code key_code coded_ℤ)) (λ row. (row.to, row.weights))
+    (λ parts. record { to = parts.0; weights = parts.1 }) (λ _. refl)
 
 -- the key of an entry with its weight
 abbrev pub keyed : PointId → Entry → Key × ℤ
@@ -35,18 +37,20 @@ AreRising to entries = T (map_of.is_sorted key_cmp (map (keyed to) entries))
 
 -- a dense row has, for the points of its places, what a row has for the ordinary edges that begin there, by the nearest words
 abbrev pub IsMirrorOf : TargetRow → List (Option ℤ) → Type 0
-IsMirrorOf row words = (from : PointId) → from.0 < length words → slice_index_or words from.0 None ≡ held (word_of (map_of.get row.weights (ordinary_key from row.to)))
+IsMirrorOf row words = (from : PointId) → from.0 < length words
+    → slice_index_or words from.0 None ≡ held (word_of (map_of.get row.weights (ordinary_key from row.to)))
 
 -- a dense row after a key was given a weight or lost it
 abbrev pub mirrored_for : List (Option ℤ) → PointId → Option LinkId → Option ℤ → List (Option ℤ)
 mirrored_for words from None weight = slice_set words from.0 (held (word_of weight))
 mirrored_for words from (Some label) weight = words
 
+-- the same by a key
 abbrev pub mirrored : List (Option ℤ) → Key → Option ℤ → List (Option ℤ)
 mirrored words key weight = mirrored_for words key.from key.label weight
 
 -- what is kept of a row: its entries, whose keys rise, and a dense row
-pub record IsKept (to : PointId) (entries : List Entry) (ordinary : List (Option ℤ)) : Type 0 where
+pub record IsKeptRow (to : PointId) (entries : List Entry) (ordinary : List (Option ℤ)) : Type 0 where
   pub rises : AreRising to entries
   pub mirror : IsMirrorOf (row_with to entries) ordinary
 

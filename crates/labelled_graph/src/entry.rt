@@ -1,9 +1,12 @@
+//! The entries of a row: an edge in 16 bytes, and the order of their keys.
+
 ghost use Rattle.std.specs.Prelude.{◌≡◌, ◌<◌, ◌^◌, IfSome};
 ghost use Rattle.std.specs.Ordering.{nat_cmp};
 ghost use Rattle.std.specs.Cmp.Lexicographic.{slice_cmp};
 ghost use Rattle.net_model.specs.declared.ids.PointId.{PointId};
 ghost use Rattle.closure_model.specs.Keys.{key_cmp, label_number};
-ghost use Rattle.labelled_graph.specs.Entries.{edge_into, is_ordinary, key_into, key_with, wide_label};
+ghost use Rattle.labelled_graph.specs.Entries.{edge_into, is_ordinary, key_into, key_with};
+ghost use Rattle.labelled_graph.specs.Entries.{wide_label};
 
 use net_model::{Edge, LinkId, PointId, Weight};
 use std::cmp::Ordering;
@@ -12,8 +15,8 @@ use std::mem::size_of;
 // An entry takes 16 bytes.
 const _: () = prove!(size_of::<Entry>() == 16);
 
-/// An edge in a row of a table, in 16 bytes: where it begins, the number of its label if it has one, and its weight. Where it ends
-/// the row says.
+/// An edge in a row of a table, in 16 bytes: where it begins, the number of its label if it has
+/// one, and its weight. The row says where it ends.
 #[derive(Clone, Copy, Debug)]
 pub struct Entry {
     pub from: PointId,
@@ -29,7 +32,7 @@ impl Entry {
         self.label.is_none()
     }
 
-    /// The edge, where it ends in this point.
+    /// The edge of the entry in the row of this point, in which it ends.
     pub fn edge_into(&self, to: PointId) -> Edge
         ensures { result ≡ edge_into to self.now }
     {
@@ -55,7 +58,8 @@ impl Entry {
 
     /// Compares the key of the entry with another key of its row.
     pub(crate) fn compare(&self, from: PointId, label: Option<LinkId>) -> Ordering
-        ensures { (to : PointId) → result ≡ key_cmp (key_into to self.now) (key_with to from label) }
+        ensures { (to : PointId) → result ≡ key_cmp (key_into to self.now)
+            (key_with to from label) }
     {
         match self.from.0.cmp(&from.0) {
             Ordering::Equal => compare_labels(wide_label(self.label), label),
@@ -85,7 +89,7 @@ pub(crate) fn wide_label(label: Option<u16>) -> Option<LinkId>
     }
 }
 
-/// Compares two labels: none comes before any, and they by their numbers.
+/// Compares two labels: none comes before any, and labels are in the order of their numbers.
 fn compare_labels(label: Option<LinkId>, other: Option<LinkId>) -> Ordering
     ensures { result ≡ slice_cmp nat_cmp (label_number label) (label_number other) }
 {

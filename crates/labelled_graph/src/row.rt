@@ -1,4 +1,8 @@
-ghost use Rattle.std.specs.Prelude.{◌≡◌, ◌<◌, ◌≤◌, ◌*◌, ◌+◌, ◌^◌, ◌<ℤ◌, ◌++◌, ◌∷◌, [], take, drop, length, pos, false, IfSome, IsSome, Some, OnOk, OnErr, IfOk, map, slice_index_or};
+//! The row of a point: the entries of the edges that end in it, and if many, a dense row.
+
+ghost use Rattle.std.specs.Prelude.{◌≡◌, ◌<◌, ◌≤◌, ◌*◌, ◌+◌, ◌^◌, ◌<ℤ◌, ◌++◌, ◌∷◌, [], take, drop};
+ghost use Rattle.std.specs.Prelude.{length, pos, false, IfSome, IsSome, Some, OnOk, OnErr, IfOk};
+ghost use Rattle.std.specs.Prelude.{map, slice_index_or};
 ghost use Rattle.std.specs.FinMap as map_of;
 ghost use Rattle.std.specs.List.Sorted.{IsSearchInRange};
 ghost use Rattle.std.specs.declared.cmp.Ordering.TheVariants.{Less};
@@ -6,27 +10,30 @@ ghost use Rattle.std.specs.Vec.{vec_len, vec_capacity};
 ghost use Rattle.net_model.specs.declared.ids.PointId.{PointId};
 ghost use Rattle.closure_model.specs.Keys.{key_of, ordinary_key};
 ghost use Rattle.labelled_graph.specs.Entries.{key_with};
-ghost use Rattle.labelled_graph.specs.Merging.{row_set, word_set, words_set, CanPutNext, IsMerged, IsNextOf};
-ghost use Rattle.labelled_graph.specs.Rows.{keyed, mirrored, AllFitIn, AreRising, IsMirrorOf, IsPlaceOf};
-ghost use Rattle.labelled_graph.specs.Words.{held, FitsWord, MeetsHeld};
+ghost use Rattle.labelled_graph.specs.MergedRows.{row_set, word_set, words_set, CanPutNext};
+ghost use Rattle.labelled_graph.specs.MergedRows.{IsMerged, IsNextOf};
+ghost use Rattle.labelled_graph.specs.Rows.{keyed, mirrored, AllFitIn, AreRising, IsMirrorOf};
+ghost use Rattle.labelled_graph.specs.Rows.{IsPlaceOf};
+ghost use Rattle.labelled_graph.specs.Words.{held, FitsWord, SaturatesHeld};
 
-use crate::dense::DenseRow;
+use crate::dense_row::DenseRow;
 use crate::entry::{Entry, wide_label};
 use net_model::{Edge, LinkId, PointId, Weight};
 use std::alloc::{AllocError, Global};
 use std::cmp::Ordering;
 use std::marker::Model;
 
-/// How many points there are at least for each edge of a row that has no dense row beside its entries.
+/// How many points there are at least for each edge of a row that has no dense row beside its
+/// entries.
 const POINTS_AN_EDGE: u32 = 12;
 
-/// So many entries are looked at one after another before a place is sought among the others: where many entries are put among some, the
-/// next place is mostly near.
+/// How many entries are looked at one after another before a place is sought among the others: if
+/// many entries are put among some, the next place is mostly near.
 const NEAR: usize = 8;
 
-/// The edges that end in one point: an entry for each, in the order of their keys, and once they are many also the weights of the
-/// ordinary ones by the points in which they begin, a word for each point. Contracts see it as the point in which they end, with a map
-/// from keys to weights.
+/// The edges that end in one point: an entry for each, in the order of their keys, and once they
+/// are many also the weights of the ordinary ones by the points in which they begin, a word for
+/// each point. Contracts see it as the point in which they end, with a map from keys to weights.
 #[derive(Debug, Drop)]
 pub(crate) struct Row {
     target: PointId,
@@ -35,7 +42,7 @@ pub(crate) struct Row {
 }
 
 impl Model for Row {
-    ghost use Rattle.labelled_graph.specs.Rows.{TargetRow, row_code, row_with, IsKept};
+    ghost use Rattle.labelled_graph.specs.Rows.{TargetRow, row_code, row_with, IsKeptRow};
 
     ghost Value = { TargetRow };
 
@@ -43,7 +50,7 @@ impl Model for Row {
 
     ghost view = { λ row. row_with row.target row.entries.items };
 
-    ghost invariant = { λ row. IsKept row.target row.entries.items row.ordinary };
+    ghost invariant = { λ row. IsKeptRow row.target row.entries.items row.ordinary };
 }
 
 impl Row {
@@ -69,18 +76,19 @@ impl Row {
     pub(crate) fn get(&self, from: PointId, label: Option<LinkId>) -> Option<Weight>
         ensures { result ≡ map_of.get self.now.weights (key_with self.now.to from label) }
     {
-        match self.told(from, label) {
+        match self.recorded(from, label) {
             Some(weight) => Some(weight),
             None => self.searched(from, label),
         }
     }
 
-    /// The weight of a key, where a word tells it.
-    fn told(&self, from: PointId, label: Option<LinkId>) -> Option<Weight>
-        ensures { IfSome result (λ weight. map_of.get self.now.weights (key_with self.now.to from label) ≡ Some weight) }
+    /// The weight of a key, if a word gives it exactly.
+    fn recorded(&self, from: PointId, label: Option<LinkId>) -> Option<Weight>
+        ensures { IfSome result (λ weight. map_of.get self.now.weights
+            (key_with self.now.to from label) ≡ Some weight) }
     {
         match label {
-            None => self.ordinary.told(from),
+            None => self.ordinary.recorded(from),
             Some(_) => None,
         }
     }
@@ -95,16 +103,18 @@ impl Row {
         }
     }
 
-    /// The words of what the row has for ordinary edges, by the points in which they begin; there may be fewer than points.
+    /// The words of what the row has for ordinary edges, by the points in which they begin; there
+    /// may be fewer than points.
     pub(crate) fn words(&self) -> &[i32]
         ensures { IsMirrorOf self.now (map held result.now) }
     {
         self.ordinary.words()
     }
 
-    /// Whether a negative weight after the ordinary edge of this row that begins in a point of a range may go below what words of others
-    /// hold there. It may wherever the row keeps no words of these points.
-    pub(crate) fn falls_before(
+    /// Whether the weight of the ordinary edge of this row that begins in a point of a range,
+    /// counted as 0 if it is below, plus a negative weight may be less than what words of others
+    /// hold there. It may whenever the row keeps no words of these points.
+    pub(crate) fn improves_before(
         &self,
         there: &[i32],
         from: usize,
@@ -113,23 +123,31 @@ impl Row {
     ) -> bool
         requires negative { weight <ℤ pos 0 }
         requires weight { FitsWord weight }
-        ensures { AllFitIn self.now → result ≡ false → (first : PointId) → from ≤ first.0 → first.0 < end → MeetsHeld (map_of.get self.now.weights (ordinary_key first self.now.to)) (held (slice_index_or there.now first.0 (pos 0))) weight }
+        ensures { AllFitIn self.now → result ≡ false → (first : PointId) → from ≤ first.0
+            → first.0 < end → SaturatesHeld (map_of.get self.now.weights
+            (ordinary_key first self.now.to)) (held (slice_index_or there.now first.0 (pos 0)))
+            weight }
     {
-        self.ordinary.falls_before(there, from, end, weight)
+        self.ordinary.improves_before(there, from, end, weight)
     }
 
-    /// Gives the key of an edge its weight, in a row of so many points. `AllocError` comes only for want of memory, and changes nothing.
+    /// Gives the key of an edge its weight, in a row of so many points. `AllocError` comes only for
+    /// want of memory, and changes nothing.
     pub(crate) fn set(&mut self, edge: &Edge, points: u32) -> Result<(), AllocError>
         requires to { edge.now.to ≡ self.old.to }
         requires label { IfSome edge.now.label (λ label. label.0 < 2 ^ 16) }
-        ensures set { OnOk result (self.new ≡ record self.old { weights = map_of.insert self.old.weights (key_of edge.now) edge.now.weight }) }
+        ensures set { OnOk result (self.new ≡ record self.old {
+          weights =
+              map_of.insert self.old.weights (key_of edge.now) edge.now.weight;
+        }) }
         ensures unchanged { OnErr result (self.new ≡ self.old) }
     {
         self.keep_words(0, points)?;
         self.put(edge)
     }
 
-    /// Keeps words of the ordinary edges from now on, if the row, with so many more, has many edges for so many points.
+    /// Keeps words of the ordinary edges from now on, if the row, with so many more, has many edges
+    /// for so many points.
     fn keep_words(&mut self, more: usize, points: u32) -> Result<(), AllocError>
         ensures { self.new ≡ self.old }
     {
@@ -152,7 +170,10 @@ impl Row {
     fn put(&mut self, edge: &Edge) -> Result<(), AllocError>
         requires to { edge.now.to ≡ self.old.to }
         requires label { IfSome edge.now.label (λ label. label.0 < 2 ^ 16) }
-        ensures set { OnOk result (self.new ≡ record self.old { weights = map_of.insert self.old.weights (key_of edge.now) edge.now.weight }) }
+        ensures set { OnOk result (self.new ≡ record self.old {
+          weights =
+              map_of.insert self.old.weights (key_of edge.now) edge.now.weight;
+        }) }
         ensures unchanged { OnErr result (self.new ≡ self.old) }
     {
         match place_of(self.entries.as_slice(), edge.from, edge.label) {
@@ -162,7 +183,7 @@ impl Row {
                 Ok(())
             }
             Err(place) => {
-                make_room(&mut self.entries)?;
+                reserve_one(&mut self.entries)?;
                 self.entries.insert(place, Entry::of(edge))?;
                 write_word(&mut self.ordinary, edge);
                 Ok(())
@@ -170,8 +191,8 @@ impl Row {
         }
     }
 
-    /// Gives the keys of entries, which rise, their weights, going over the row once, in a row of so many points. `AllocError` comes only
-    /// for want of memory, and changes nothing.
+    /// Gives the keys of entries, which rise, their weights, going over the row once, in a row of
+    /// so many points. `AllocError` comes only for want of memory, and changes nothing.
     pub(crate) fn merge(&mut self, new: &[Entry], points: u32) -> Result<(), AllocError>
         requires { AreRising self.old.to new.now }
         ensures set { OnOk result (self.new ≡ row_set self.old new.now) }
@@ -188,7 +209,10 @@ impl Row {
         requires to { edge.now.to ≡ self.old.to }
         requires label { IfSome edge.now.label (λ label. label.0 < 2 ^ 16) }
         requires present { IsSome (map_of.get self.old.weights (key_of edge.now)) }
-        ensures { self.new ≡ record self.old { weights = map_of.insert self.old.weights (key_of edge.now) edge.now.weight } }
+        ensures { self.new ≡ record self.old {
+          weights =
+              map_of.insert self.old.weights (key_of edge.now) edge.now.weight;
+        } }
     {
         if let Ok(place) = place_of(self.entries.as_slice(), edge.from, edge.label) {
             self.entries[place] = Entry::of(edge);
@@ -199,7 +223,10 @@ impl Row {
     /// Takes away the weight of a key, if it has one.
     pub(crate) fn remove(&mut self, edge: &Edge)
         requires { edge.now.to ≡ self.old.to }
-        ensures { self.new ≡ record self.old { weights = map_of.remove self.old.weights (key_of edge.now) } }
+        ensures { self.new ≡ record self.old {
+          weights =
+              map_of.remove self.old.weights (key_of edge.now);
+        } }
     {
         if let Ok(place) = place_of(self.entries.as_slice(), edge.from, edge.label) {
             self.entries.remove(place);
@@ -224,15 +251,17 @@ impl Row {
 /// The place of a key among entries, or the place at which it would stand.
 fn place_of(entries: &[Entry], from: PointId, label: Option<LinkId>) -> Result<usize, usize>
     ensures range { IsSearchInRange result (length entries.now) }
-    ensures place { (to : PointId) → AreRising to entries.now → IsPlaceOf to entries.now (key_with to from label) result }
+    ensures place { (to : PointId) → AreRising to entries.now
+        → IsPlaceOf to entries.now (key_with to from label) result }
 {
     entries.binary_search_by(|entry| entry.compare(from, label))
 }
 
-/// The same, quicker where the place is among the first.
+/// The same, quicker if the place is among the first.
 fn place_soon(entries: &[Entry], from: PointId, label: Option<LinkId>) -> Result<usize, usize>
     ensures range { IsSearchInRange result (length entries.now) }
-    ensures place { (to : PointId) → AreRising to entries.now → IsPlaceOf to entries.now (key_with to from label) result }
+    ensures place { (to : PointId) → AreRising to entries.now
+        → IsPlaceOf to entries.now (key_with to from label) result }
 {
     let near = entries.len().min(NEAR);
     for place in 0..near {
@@ -249,9 +278,11 @@ fn place_soon(entries: &[Entry], from: PointId, label: Option<LinkId>) -> Result
     }
 }
 
-/// Entries whose keys rise and others whose keys rise as one list, in the order of their keys; where both have a key, as the others have it.
+/// Entries whose keys rise and others whose keys rise as one list, in the order of their keys; if
+/// both have a key, as the others have it.
 fn merged(entries: &[Entry], new: &[Entry], alloc: Global) -> Result<Vec<Entry>, AllocError>
-    ensures { (to : PointId) → AreRising to entries.now → AreRising to new.now → IfOk result (λ all. IsMerged to entries.now new.now all.items) }
+    ensures { (to : PointId) → AreRising to entries.now → AreRising to new.now
+        → IfOk result (λ all. IsMerged to entries.now new.now all.items) }
 {
     let mut all = Vec::with_capacity(alloc, entries.len() + new.len())?;
     let mut left = entries;
@@ -263,14 +294,16 @@ fn merged(entries: &[Entry], new: &[Entry], alloc: Global) -> Result<Vec<Entry>,
     Ok(all)
 }
 
-/// Puts to the end of a list the entries, of those that are left, that stand before the key of an entry, and then this one. Gives what is
-/// left then: the entries behind the key.
+/// Puts to the end of a list the entries, of those that are left, that stand before the key of an
+/// entry, and then this one. Gives what is left then: the entries behind the key.
 fn put_next<'a>(
     all: &mut Vec<Entry>,
     left: &'a [Entry],
     entry: &Entry,
 ) -> Result<&'a [Entry], AllocError>
-    ensures { (to : PointId) → CanPutNext to all.old.items left.now entry.now → IfOk result (λ rest. IsNextOf to all.old.items left.now entry.now all.new.items rest.now) }
+    ensures { (to : PointId) → CanPutNext to all.old.items left.now entry.now
+        → IfOk result (λ rest. IsNextOf to all.old.items left.now entry.now all.new.items
+        rest.now) }
 {
     match place_soon(left, entry.from, wide_label(entry.label)) {
         Ok(place) => put_part(all, left, place, place + 1, entry),
@@ -287,7 +320,9 @@ fn put_part<'a>(
 ) -> Result<&'a [Entry], AllocError>
     requires before { before ≤ length left.now }
     requires after { after ≤ length left.now }
-    ensures { IfOk result (λ rest. (all.new.items ≡ all.old.items ++ take before left.now ++ entry.now ∷ []) × (rest.now ≡ drop after left.now)) }
+    ensures { IfOk result (λ rest.
+        (all.new.items ≡ all.old.items ++ take before left.now ++ entry.now ∷ [])
+        × (rest.now ≡ drop after left.now)) }
 {
     all.extend_from_slice(left.split_at(before).0)?;
     all.push(*entry)?;
@@ -329,12 +364,14 @@ fn erase_word(ordinary: &mut DenseRow, edge: &Edge)
     }
 }
 
-/// Makes room for one entry more: where no place is left, a quarter as many again as there are entries. So of five places at most one
-/// is empty, and an entry takes at most 20 bytes with its share of the empty places, 24 with its word.
-fn make_room(entries: &mut Vec<Entry>) -> Result<(), AllocError>
+/// Makes capacity for one entry more: if no place is left, a quarter as many again as there are
+/// entries. So of five places at most one is empty, and an entry takes at most 20 bytes with its
+/// share of the empty places, 24 with its word.
+fn reserve_one(entries: &mut Vec<Entry>) -> Result<(), AllocError>
     ensures items { entries.new.items ≡ entries.old.items }
-    ensures room { OnOk result (vec_len entries.old < vec_capacity entries.new) }
-    ensures share { 4 * vec_capacity entries.old ≤ 5 * (vec_len entries.old + 1) → 4 * vec_capacity entries.new ≤ 5 * (vec_len entries.old + 1) }
+    ensures spare_capacity { OnOk result (vec_len entries.old < vec_capacity entries.new) }
+    ensures share { 4 * vec_capacity entries.old ≤ 5 * (vec_len entries.old + 1)
+        → 4 * vec_capacity entries.new ≤ 5 * (vec_len entries.old + 1) }
 {
     if entries.len() == entries.capacity() {
         entries.reserve_exact((entries.len() / 4).max(1))?;

@@ -1,28 +1,40 @@
-ghost use Rattle.std.specs.Prelude.{◌≡◌, ◌<◌, ◌≤◌, ◌<ℤ◌, pos, false, not, length, fold, map, filter, IfOk, IsSome, OnOk, OnErr, Some, slice_get, slice_index_or};
+//! The table of the labelled distance graph: a row for each point.
+
+ghost use Rattle.std.specs.Prelude.{◌≡◌, ◌<◌, ◌≤◌, ◌<ℤ◌, pos, false, not, length, fold, map};
+ghost use Rattle.std.specs.Prelude.{filter, IfOk, IsSome, OnOk, OnErr, Some, slice_get};
+ghost use Rattle.std.specs.Prelude.{slice_index_or};
 ghost use Rattle.std.specs.List.{All, enumerate_from, range_with_len};
 ghost use Rattle.net_model.specs.Limits.{most_links, IsWeight};
 ghost use Rattle.net_model.specs.Rules.{bound_edge, link_edge};
 ghost use Rattle.closure_model.specs.Keys.{IsKey, shape_of, key_of, ordinary_key, labelled_key};
 ghost use Rattle.closure_model.specs.ReferenceRow.{ordinary_into, with_made};
-ghost use Rattle.closure_model.specs.Tables.{weight_of, row_of, with_edge, without_key, no_edges, has_at_most, lowered, base_table, IsFor, IsGraph};
+ghost use Rattle.closure_model.specs.Tables.{weight_of, row_of, with_edge, without_key, no_edges};
+ghost use Rattle.closure_model.specs.Tables.{has_at_most, lowered, base_table, IsFor, IsGraph};
 ghost use Rattle.labelled_graph.specs.Changes.{IsEdgeFor};
 ghost use Rattle.labelled_graph.specs.Entries.{edge_into, is_ordinary};
-ghost use Rattle.labelled_graph.specs.Merging.{no_shape, AreMadeFor};
+ghost use Rattle.labelled_graph.specs.MergedRows.{no_shape, AreMadeFor};
 ghost use Rattle.labelled_graph.specs.Rows.{empty_row};
-ghost use Rattle.labelled_graph.specs.Words.{held, AllFitWords, AreWordsOf, FitsWord, MeetsHeld};
+ghost use Rattle.labelled_graph.specs.Words.{held, AllFitWords, AreWordsOfColumn, FitsWord};
+ghost use Rattle.labelled_graph.specs.Words.{SaturatesHeld};
 
 use crate::entry::Entry;
-use crate::ordered::{ordered, rise};
+use crate::ordered_entries::{ordered, rise};
 use crate::row::Row;
 use closure_model::rows::Made;
 use net_model::{Bound, Edge, Link, LinkId, Network, PointId, Weight, bound_edge, link_edge};
 use std::alloc::{AllocError, Global};
 use std::marker::Model;
 
-/// A table of the labelled distance graph (Morris and Muscettola 2005, in this project's form): a finite map from keys to weights,
-/// where a key is a source and a target, or a source and a label. Contracts see it as that map with the points and links that it is
-/// for. For each point it keeps the keys that have a weight and whose edges end there, in their order, in 16 bytes each and at most 24
-/// with the room that is kept free; a point without such keys takes the room of an empty list.
+/// A table of the labelled distance graph (Morris and Muscettola 2005, in this project's form): a
+/// finite map from keys to weights. A key is a source and a target, for an ordinary edge, or a
+/// source and a label, which is a link, for an upper-case edge; that ends where the link begins.
+/// Contracts see it as that map with the points and links that it is for. For each point it keeps
+/// the keys that have a weight and whose edges end there, in their order, in 16 bytes each; a point
+/// without such keys takes the memory of an empty list. The list of a point grows by a quarter, so
+/// an entry takes at most 20 bytes; a list from which entries were taken keeps its capacity. Once
+/// it has more than a twelfth as many entries as there are points a word of four bytes for each
+/// point is kept too, so 24 bytes an entry if the list is full. That words are kept only then is no
+/// clause.
 #[derive(Debug, Drop)]
 pub struct Table {
     rows: Vec<Row>,
@@ -37,14 +49,15 @@ impl Model for Table {
 
     ghost coded = { graph_code };
 
-    ghost use Rattle.labelled_graph.specs.Stored.{graph_of, IsStored};
+    ghost use Rattle.labelled_graph.specs.StoredRows.{graph_of, IsStoredTable};
 
     ghost view = { graph_of };
 
-    ghost invariant = { IsStored };
+    ghost invariant = { IsStoredTable };
 }
 
-/// So many edges of a row come into a table by going over its row once. Fewer come one after another, which moves less.
+/// From so many edges on, those that a row made come into a table by going over its row once. Fewer
+/// come one after another, which moves less.
 const MANY: usize = 4;
 
 impl Table {
@@ -58,8 +71,8 @@ impl Table {
         }
     }
 
-    /// The base table of a network: for each key the least weight of the edges of its bounds and links. `AllocError` comes only for
-    /// want of memory.
+    /// The base table of a network: for each key the least weight of the edges of its bounds and
+    /// links. `AllocError` comes only for want of memory.
     pub fn of(alloc: Global, net: &Network) -> Result<Table, AllocError>
         ensures base { IfOk result (λ table. table ≡ base_table net.now) }
         ensures shape { IfOk result (IsFor net.now) }
@@ -85,14 +98,15 @@ impl Table {
         Ok(Table { rows, activations })
     }
 
-    /// Every table is sound. This does nothing: a body calls it where its proof needs the law.
+    /// Every table is sound. This does nothing: a body calls it if its proof needs the law.
     pub fn sound(&self)
         ensures { IsGraph self.now }
     {
         let _ = &self.rows;
     }
 
-    /// The weight of the ordinary edge between two points, if there is one.
+    /// The weight of the ordinary edge between two points, and `None` exactly if there is none. It
+    /// takes no memory.
     pub fn weight(&self, from: PointId, to: PointId) -> Option<Weight>
         requires from_point { from.0 < self.now.shape.points }
         requires to_point { to.0 < self.now.shape.points }
@@ -103,12 +117,13 @@ impl Table {
         row.get(from, None)
     }
 
-    /// The weight of the edge from a point that is labelled by a link, if there is one. It ends in the point in which the link
-    /// begins.
+    /// The weight of the edge from a point that is labelled by a link, which ends in the point in
+    /// which the link begins, and `None` exactly if there is none. It takes no memory.
     pub fn upper(&self, from: PointId, link: LinkId) -> Option<Weight>
         requires from_point { from.0 < self.now.shape.points }
         requires link { link.0 < length self.now.shape.activations }
-        ensures weight { (to : PointId) → slice_get self.now.shape.activations link.0 ≡ Some to → result ≡ weight_of self.now (labelled_key from to link) }
+        ensures weight { (to : PointId) → slice_get self.now.shape.activations link.0 ≡ Some to
+            → result ≡ weight_of self.now (labelled_key from to link) }
         ensures sound { IsGraph self.now }
     {
         let to = self.activations[link.0 as usize];
@@ -125,12 +140,14 @@ impl Table {
             .is_some_and(|weight| weight <= edge.weight)
     }
 
-    /// Gives the key of an edge its weight where the key has none or a greater one, and says whether it did. Nothing else changes.
-    /// `AllocError` comes only for want of memory, and changes nothing.
+    /// Gives the key of an edge its weight if the key has none or a greater one, and says whether
+    /// it did. Nothing else changes. `AllocError` comes only for want of memory, and changes
+    /// nothing.
     pub fn lower_to(&mut self, edge: &Edge) -> Result<bool, AllocError>
         requires key { IsKey self.old.shape (key_of edge.now) }
         requires weight { IsWeight edge.now.weight }
-        ensures lowered { IfOk result (λ fell. (fell ≡ not (has_at_most self.old edge.now)) × (self.new ≡ lowered self.old edge.now)) }
+        ensures lowered { IfOk result (λ improved. (improved ≡ not (has_at_most self.old edge.now))
+            × (self.new ≡ lowered self.old edge.now)) }
         ensures unchanged { OnErr result (self.new ≡ self.old) }
     {
         if self.has_at_most(edge) {
@@ -142,8 +159,10 @@ impl Table {
         Ok(true)
     }
 
-    /// Gives the keys of the edges that a row made their weights, going over the edges that end in its target once. Nothing else changes.
-    /// `AllocError` comes only for want of memory; then some of the edges may have come in.
+    /// Gives the keys of the edges that a row made for a target their weights, each of which is
+    /// below what the table has (`AreMadeFor`). It goes over the edges that end in the target once,
+    /// which is no clause. Nothing else changes. `AllocError` comes only for want of memory; then
+    /// some of the edges may have come in.
     pub fn lower_all(&mut self, to: PointId, made: &[Made]) -> Result<(), AllocError>
         requires { AreMadeFor self.old to made.now }
         ensures { OnOk result (self.new ≡ with_made self.old made.now) }
@@ -172,7 +191,7 @@ impl Table {
         Ok(())
     }
 
-    /// Sets the weight of a key that has one. Nothing else changes.
+    /// Sets the weight of a key that has one. Nothing else changes. It takes no memory.
     pub fn raise_to(&mut self, edge: &Edge)
         requires present { IsSome (weight_of self.old (key_of edge.now)) }
         requires weight { IsWeight edge.now.weight }
@@ -182,7 +201,7 @@ impl Table {
         row.replace(edge);
     }
 
-    /// Takes away the weight of a key that has one. Nothing else changes.
+    /// Takes away the weight of a key that has one. Nothing else changes. It takes no memory.
     pub fn clear(&mut self, edge: &Edge)
         requires { IsSome (weight_of self.old (key_of edge.now)) }
         ensures { self.new ≡ without_key self.old (key_of edge.now) }
@@ -191,42 +210,51 @@ impl Table {
         row.remove(edge);
     }
 
-    /// The words of the ordinary edges that end in a point, by the points in which they begin. A word is the weight itself where it fits, the
-    /// greatest where there is none, and else the nearest. Where few edges end there none are kept, and there are fewer words than points.
-    /// It takes no memory.
+    /// The words of the ordinary edges that end in a point, by the points in which they begin. A
+    /// word is the weight itself if it fits, the greatest if there is none, and else the nearest.
+    /// If few edges end there none are kept: there may be fewer words than points. It takes no
+    /// memory.
     pub fn words(&self, to: PointId) -> &[i32]
         requires { to.0 < self.now.shape.points }
-        ensures { AreWordsOf self.now to None result.now }
+        ensures { AreWordsOfColumn self.now to None result.now }
     {
         let row = &self.rows[to.0 as usize];
         row.words()
     }
 
-    /// Whether an ordinary edge from a point of a range, with a negative edge after it, may go below what words hold at the point. It may
-    /// wherever the table keeps no words of the edges that end where the edge begins.
-    pub fn falls_before(&self, edge: &Edge, there: &[i32], from: u32, end: u32) -> bool
+    /// Whether the weight of an ordinary edge from a point of a range, counted as 0 if it is below,
+    /// plus that of a negative edge after it may be less than what words hold at the point. If the
+    /// answer is no, and every weight of the table fits a word (`AllFitWords`), it is not less. The
+    /// answer may be yes whenever the table keeps no words of the edges that end where the edge
+    /// begins; that it is no whenever it could be is no clause.
+    pub fn improves_before(&self, edge: &Edge, there: &[i32], from: u32, end: u32) -> bool
         requires begins { edge.now.from.0 < self.now.shape.points }
         requires negative { edge.now.weight <ℤ pos 0 }
         requires weight { FitsWord edge.now.weight }
-        ensures { AllFitWords self.now → result ≡ false → (first : PointId) → from ≤ first.0 → first.0 < end → MeetsHeld (weight_of self.now (ordinary_key first edge.now.from)) (held (slice_index_or there.now first.0 (pos 0))) edge.now.weight }
+        ensures { AllFitWords self.now → result ≡ false → (first : PointId) → from ≤ first.0
+            → first.0 < end → SaturatesHeld (weight_of self.now (ordinary_key first edge.now.from))
+            (held (slice_index_or there.now first.0 (pos 0))) edge.now.weight }
     {
         let row = &self.rows[edge.from.0 as usize];
-        row.falls_before(there, from as usize, end as usize, edge.weight)
+        row.improves_before(there, from as usize, end as usize, edge.weight)
     }
 
-    /// The entries of the edges that end in a point, in the order of their keys: by the number of the point in which they begin, the
-    /// ordinary edge before the labelled ones, those by the number of their label. It takes no memory.
+    /// The entries of the edges that end in a point, in the order of their keys: by the number of
+    /// the point in which they begin, the ordinary edge before the labelled ones, those by the
+    /// number of their label. It takes no memory.
     pub fn entries(&self, to: PointId) -> &[Entry]
         requires { to.0 < self.now.shape.points }
         ensures row { map (edge_into to) result.now ≡ row_of self.now to }
-        ensures ordinary { map (edge_into to) (filter is_ordinary result.now) ≡ ordinary_into self.now to }
+        ensures ordinary { map (edge_into to) (filter is_ordinary result.now) ≡ ordinary_into
+            self.now to }
         ensures sound { IsGraph self.now }
     {
         let row = &self.rows[to.0 as usize];
         row.entries()
     }
 
-    /// The edges that end in a point, in the order of their keys, as `entries` has them. `AllocError` comes only for want of memory.
+    /// The edges that end in a point, in the order of their keys, as `entries` has them.
+    /// `AllocError` comes only for want of memory.
     pub fn row_into(&self, alloc: Global, target: PointId) -> Result<Vec<Edge>, AllocError>
         requires { target.0 < self.now.shape.points }
         ensures { IfOk result (λ row. row.items ≡ row_of self.now target) }
@@ -260,9 +288,11 @@ impl Table {
     }
 
     fn lower_to_links(&mut self, links: &[Link]) -> Result<(), AllocError>
-        requires sound { All (λ e. IsEdgeFor self.old.shape (link_edge (record { 0 = e.0 }) e.1)) (enumerate_from 0 links.now) }
+        requires sound { All (λ e. IsEdgeFor self.old.shape (link_edge (record { 0 = e.0 }) e.1))
+            (enumerate_from 0 links.now) }
         requires few { length links.now ≤ most_links }
-        ensures { OnOk result (self.new ≡ fold lowered self.old (map (λ e. link_edge (record { 0 = e.0 }) e.1) (enumerate_from 0 links.now))) }
+        ensures { OnOk result (self.new ≡ fold lowered self.old
+            (map (λ e. link_edge (record { 0 = e.0 }) e.1) (enumerate_from 0 links.now))) }
     {
         for (place, link) in links.iter().enumerate() {
             self.lower_to(&link_edge(LinkId(place as u32), link))?;

@@ -31,8 +31,8 @@ module _ (links : List Link) (moments : Moments) (wait : LinkId × ℤ) (d : Lin
   by_its_link : meets_wait (record { links = links; dispatch = [] }) moments t wait ≡ by_ends (moment_of moments its_link.from) (moment_of moments its_link.to)
   by_its_link = ap (λ (o : Option Link). option_map_or (meets_wait_for moments t wait.1) o false) (slice_get-get_or links wait.0.0 d inside)
 
-  pub wait_not_begun : moment_of moments (get_or links wait.0.0 d).from ≡ None → meets_wait (record { links = links; dispatch = [] }) moments t wait ≡ false
-  wait_not_begun none = by_its_link ∙ ap (λ (o : Option ℕ). by_ends o (moment_of moments its_link.to)) none
+  pub wait_not_active : moment_of moments (get_or links wait.0.0 d).from ≡ None → meets_wait (record { links = links; dispatch = [] }) moments t wait ≡ false
+  wait_not_active none = by_its_link ∙ ap (λ (o : Option ℕ). by_ends o (moment_of moments its_link.to)) none
 
   pub wait_ended : (activated : ℕ) → moment_of moments (get_or links wait.0.0 d).from ≡ Some activated → is_some (moment_of moments (get_or links wait.0.0 d).to) ≡ true
       → meets_wait (record { links = links; dispatch = [] }) moments t wait ≡ true

@@ -20,19 +20,19 @@ use Rattle.execution_model.specs.Paced.{slim_setting}
 use Rattle.net_model.specs.Moments.{Moments, moment_of}
 use Rattle.closure_model.proofs.Lists.{Contains-filter_from}
 use Rattle.execution_model.specs.Execution.{Setting, meets, has_come, link_to, is_due, meets_bound, meets_wait, meets_wait_for, has_gone_by, points_of, acts_at, time_runs}
-use Rattle.execution_model.specs.Feeding.{is_open}
+use Rattle.execution_model.specs.Feeds.{is_open}
 use Rattle.execution_model.specs.Laws.{NoActsLeftIsWhole, setting_of}
 use Rattle.execution_model.proofs.LinkLemmas.{contingent_has_link, link_to_is_point}
 use Rattle.execution_model.proofs.PlaceLemmas.{gone_by, from_gone_by}
 use Rattle.execution_model.proofs.MomentLemmas.{Contains-point, due_parts, due_from, time_runs_contingent, no_acts_none_due, none_due_no_acts}
 use Rattle.live_executor.specs.Limits.{AreBefore}
-use Rattle.live_executor.specs.Sound.{IsLowerBound, IsWait, IsSound, IsKept, ComesToItsEnd, kept_network, made_setting}
+use Rattle.live_executor.specs.Sound.{IsLowerBound, IsWait, IsSoundSetting, IsKeptNetwork, ComesToItsEnd, kept_network, made_setting}
 use Rattle.live_executor.specs.Wakes.{WakeLists}
 use Rattle.live_executor.proofs.SameLemmas.{made_of}
 use Rattle.live_executor.proofs.MomentLemmas.{moment_before}
 
--- ---- of which network it is
-made_comes_to_its_end : NoActsLeftIsWhole → (lists : DispatchLists) (points : ℕ) (wakes : WakeLists) → IsKept lists points → ComesToItsEnd (made_setting (kept_network lists wakes))
+-- ---- which network it is of
+made_comes_to_its_end : NoActsLeftIsWhole → (lists : DispatchLists) (points : ℕ) (wakes : WakeLists) → IsKeptNetwork lists points → ComesToItsEnd (made_setting (kept_network lists wakes))
 made_comes_to_its_end law lists points wakes kept moments whole contingent idle =
     let of = kept.dispatched in
     let setting = made_setting (kept_network lists wakes) in
@@ -51,10 +51,12 @@ fewer_met setting moments t all met =
     let slim = slim_conditions setting.links setting.dispatch all in
     let (bounds, waits) = and_parts (list_all (meets_bound moments t) all.lower_bounds) (list_all (meets_wait setting moments t) all.waits) met in
     and_from (list_all (meets_bound moments t) slim.lower_bounds) (list_all (meets_wait setting moments t) slim.waits)
-    (list_passes (meets_bound moments t) slim.lower_bounds (λ bound among. passes_each (meets_bound moments t) all.lower_bounds bound bounds (Contains-filter_from (λ b. not (is_bound_implied setting.links setting.dispatch all b)) all.lower_bounds bound among)))
-    (list_passes (meets_wait setting moments t) slim.waits (λ wait among. passes_each (meets_wait setting moments t) all.waits wait waits (Contains-filter_from (λ w. not (is_wait_implied setting.links setting.dispatch all w)) all.waits wait among)))
+    (list_passes (meets_bound moments t) slim.lower_bounds (λ bound among. passes_each (meets_bound moments t) all.lower_bounds bound bounds
+    (Contains-filter_from (λ b. not (is_bound_implied setting.links setting.dispatch all b)) all.lower_bounds bound among)))
+    (list_passes (meets_wait setting moments t) slim.waits (λ wait among. passes_each (meets_wait setting moments t) all.waits wait waits
+    (Contains-filter_from (λ w. not (is_wait_implied setting.links setting.dispatch all w)) all.waits wait among)))
 
--- so whoever is due by what was made is due by what others do not imply
+-- so a point that is due by what was made is due by what others do not imply
 slim_due : (setting : Setting) (moments : Moments) (t : ℕ) (point : PointId) → is_due setting moments t point ≡ true → is_due (slim_setting setting) moments t point ≡ true
 slim_due setting moments t point is =
     let (no_link, no_moment, met) = due_parts setting moments t point is in
@@ -71,7 +73,7 @@ slim_comes_to_its_end setting comes moments whole contingent idle =
     by t point none false is = refl
     by t point none true is = absurd (true≢false (sym (slim_due setting moments t point is) ∙ none))
 
-pub comes_to_its_end : NoActsLeftIsWhole → (lists : DispatchLists) (points : ℕ) (wakes : WakeLists) → IsKept lists points → ComesToItsEnd (kept_network lists wakes).setting
+pub comes_to_its_end : NoActsLeftIsWhole → (lists : DispatchLists) (points : ℕ) (wakes : WakeLists) → IsKeptNetwork lists points → ComesToItsEnd (kept_network lists wakes).setting
 comes_to_its_end law lists points wakes kept = by kept.slim_or_whole
   where
     made : ComesToItsEnd (made_setting (kept_network lists wakes))
@@ -90,7 +92,7 @@ some_of : {X : Type 0} (o : Option X) → is_some o ≡ true → (x : X) × (o �
 some_of None is = cc
 some_of (Some x) is = (x, refl)
 
--- where no contingent point is open each has come, and time that runs leaves it so
+-- if no contingent point is open each has come, and time that runs leaves it so
 pub closed_have_come : (setting : Setting) (moments : Moments) (from count : ℕ) → length moments ≡ length setting.dispatch → find (is_open setting moments) (points_of setting) ≡ None
     → (point : PointId) → point.0 < length setting.dispatch → is_some (link_to setting point) ≡ true → is_some (moment_of (time_runs setting moments from count) point) ≡ true
 closed_have_come setting moments from count whole none point inside contingent =
@@ -109,7 +111,7 @@ all_later P p q step [] all passes = refl
 all_later P p q step (x ∷ xs) all passes =
     both (p x) (list_all p xs) (q x) (list_all q xs) (step x (All-head P x xs all)) (all_later P p q step xs (All-tail P x xs all)) passes
 
-module _ (setting : Setting) (sound : IsSound setting) (moments : Moments) (from t u : ℕ) (before : AreBefore from moments) (later : from + most_size ≤ u + 1) where
+module _ (setting : Setting) (sound : IsSoundSetting setting) (moments : Moments) (from t u : ℕ) (before : AreBefore from moments) (later : from + most_size ≤ u + 1) where
   gone_later : (point : PointId) (n : ℤ) → unsigned_abs n ≤ most_size → has_gone_by moments t point n ≡ true → has_gone_by moments u point n ≡ true
   gone_later point n small holds =
       let (m, known, within) = from_gone_by moments t point n holds in

@@ -7,19 +7,19 @@ use Rattle.std.proofs.lemmas.List.Sums.{fold-append}
 use Rattle.net_model.specs.declared.ids.PointId.{PointId}
 use Rattle.net_model.specs.Moments.{Moments, moment_of}
 use Rattle.execution_model.specs.Execution.{Setting, is_due, points_of, acts_at, acted, time_runs, acts_while}
-use Rattle.execution_model.specs.Feeding.{last_of}
-use Rattle.execution_model.specs.declared.feeding.Act.{Act}
+use Rattle.execution_model.specs.Feeds.{last_of}
+use Rattle.execution_model.specs.declared.feed_answers.Act.{Act}
 use Rattle.execution_model.proofs.MomentLemmas.{no_acts_same, length-acted}
-use Rattle.live_executor.specs.Course.{CourseSoFar, RunsOut, handed_over, left_of}
-use Rattle.live_executor.specs.Kept.{GoesOn, moment_after}
+use Rattle.live_executor.specs.ExecutionStates.{ExecutionSoFar, RunsOut, without_acts, points_left}
+use Rattle.live_executor.specs.Kept.{ExecutionGoesOn, moment_after}
 use Rattle.live_executor.specs.Limits.{AreBefore, end_of_time}
 use Rattle.live_executor.specs.Sound.{KeptNetwork, made_setting}
-use Rattle.live_executor.proofs.CourseLemmas.{awake_at_end, stands_with}
+use Rattle.live_executor.proofs.FirstDueLemmas.{awake_at_end, stands_with}
 use Rattle.live_executor.proofs.MomentLemmas.{acted_before}
 use Rattle.live_executor.proofs.SettleLemmas.{left_cons}
 
--- where each has come none is left
-none_left_of : (moments : Moments) → All IsSome moments → left_of moments ≡ 0
+-- if each has come none is left
+none_left_of : (moments : Moments) → All IsSome moments → points_left moments ≡ 0
 none_left_of [] come = refl
 none_left_of (None ∷ moments) come = (let no = All-head IsSome None moments come in cc)
 none_left_of (Some m ∷ moments) come = (let rest = none_left_of moments (All-tail IsSome (Some m) moments come) in rw (left_cons (Some m) moments) (omega (arith, rest)))
@@ -82,13 +82,13 @@ some_of : (o : Option ℕ) → IsSome o → (m : ℕ) × (o ≡ Some m)
 some_of None is = absurd cc
 some_of (Some m) is = (m, refl)
 
--- an execution goes on whichever acts it hands over
-pub goes_on_with : (network : KeptNetwork) (from : ℕ) (course : CourseSoFar) → GoesOn network from course → GoesOn network from (handed_over course)
-goes_on_with network from course goes = record { stands = stands_with network from course [] course.came goes.stands; before = goes.before; time_left = goes.time_left }
+-- an execution continues whichever acts it gives away
+pub goes_on_with : (network : KeptNetwork) (from : ℕ) (state : ExecutionSoFar) → ExecutionGoesOn network from state → ExecutionGoesOn network from (without_acts state)
+goes_on_with network from state goes = record { stands = stands_with network from state [] state.came goes.stands; before = goes.before; time_left = goes.time_left }
 
--- it goes on at its end
-pub goes_at_end : (network : KeptNetwork) (old now : CourseSoFar) (last : Option ℕ) → GoesOn network (moment_after last) old → RunsOut network (moment_after last) old now
-    → GoesOn network (moment_after (last_of last now.acts)) (handed_over now)
+-- it continues at its end
+pub goes_at_end : (network : KeptNetwork) (old now : ExecutionSoFar) (last : Option ℕ) → ExecutionGoesOn network (moment_after last) old → RunsOut network (moment_after last) old now
+    → ExecutionGoesOn network (moment_after (last_of last now.acts)) (without_acts now)
 goes_at_end network old now last goes out =
     let from = moment_after last in
     let soon : from ≤ end_of_time = (let low = goes.time_left in omega (arith, low)) in
@@ -100,7 +100,7 @@ goes_at_end network old now last goes out =
       stands = record {
         awake = awake_at_end network.setting end_of_time (moment_after (last_of last now.acts)) now.moments now.counts now.due stands.awake
             (λ point inside. some_of (moment_of now.moments point) (out.come point.0 None inside));
-        awaited = stands.awaited;
+        expected = stands.expected;
         count = stands.count;
         early = stands.early;
         few = stands.few;

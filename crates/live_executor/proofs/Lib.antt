@@ -1,9 +1,9 @@
 pub mod DueLemmas
 pub mod SoundLemmas
-pub mod CourseLemmas
+pub mod FirstDueLemmas
 pub mod TimeLemmas
 pub mod MomentLemmas
-pub mod TakingLemmas
+pub mod CompletionLemmas
 pub mod ExecutorLemmas
 pub mod EndLemmas
 pub mod SettleLemmas
@@ -13,7 +13,7 @@ pub mod WakeLemmas
 pub mod WakesLemmas
 pub mod ListLemmas
 pub mod UndoLemmas
-pub mod ComingLemmas
+pub mod ArrivalLemmas
 pub mod KeptLemmas
-pub mod AwaitedLemmas
+pub mod ExpectedLemmas
 pub mod OfClosureLemmas

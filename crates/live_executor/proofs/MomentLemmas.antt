@@ -10,15 +10,15 @@ use Rattle.net_model.specs.declared.ids.PointId.{PointId}
 use Rattle.net_model.specs.Moments.{Moments, moment_of}
 use Rattle.execution_model.specs.Execution.{Setting, is_due, points_of, acted, time_runs, acts_at, acts_while}
 use Rattle.net_model.specs.Limits.{most_moment}
-use Rattle.execution_model.specs.Feeding.{Execution, next_moment, refusal_of_moment, completions_taken, completed_at, refusal_of, none_overdue, first_overdue}
-use Rattle.execution_model.specs.declared.feeding.Act.{Act}
-use Rattle.execution_model.specs.declared.feeding.Why.{Why}
-use Rattle.execution_model.specs.declared.feeding.Why.TheVariants as why
-use Rattle.live_executor.specs.Course.{CourseSoFar, StandsAt, MakesActs, Runs, cleared}
-use Rattle.live_executor.specs.Kept.{GoesOn, moment_after}
+use Rattle.execution_model.specs.Feeds.{Execution, next_moment, refusal_of_moment, completions_taken, completed_at, refusal_of, none_overdue, first_overdue}
+use Rattle.execution_model.specs.declared.feed_answers.Act.{Act}
+use Rattle.execution_model.specs.declared.feed_answers.Why.{Why}
+use Rattle.execution_model.specs.declared.feed_answers.Why.TheVariants as why
+use Rattle.live_executor.specs.ExecutionStates.{ExecutionSoFar, StandsAt, MakesActs, Runs, cleared}
+use Rattle.live_executor.specs.Kept.{ExecutionGoesOn, moment_after}
 use Rattle.live_executor.specs.Limits.{AreBefore}
 use Rattle.live_executor.specs.Sound.{KeptNetwork, made_setting}
-use Rattle.live_executor.specs.Taking.{completed, IsTried, Settles, Advances}
+use Rattle.live_executor.specs.FeedParts.{completed, IsTriedFeed, Settles, Advances}
 use Rattle.live_executor.proofs.UndoLemmas.{none_since}
 
 pub moment_before : (b : ℕ) (moments : Moments) → AreBefore b moments → (point : PointId) → IfSome (moment_of moments point) (λ a. a < b)
@@ -83,7 +83,7 @@ IsTriedWith setting first from moment answer moments acts r =
     ]
 
 -- a feed that was tried is refused as the completions are, or taken, and then the acts are made
-module _ (network : KeptNetwork) (from moment : ℕ) (listed : List PointId) (old ran now : CourseSoFar) (runs : Runs network from moment (cleared old) ran) where
+module _ (network : KeptNetwork) (from moment : ℕ) (listed : List PointId) (old ran now : ExecutionSoFar) (runs : Runs network from moment (cleared old) ran) where
   abbrev made : Setting
   made = made_setting network
 
@@ -94,7 +94,7 @@ module _ (network : KeptNetwork) (from moment : ℕ) (listed : List PointId) (ol
     since = settles.goes.trace old.moments (runs.trace old.moments (none_since old.moments [] refl));
   }
 
-  pub advances : (new : CourseSoFar) → Settles network moment listed (Ok tt) ran now → MakesActs network moment now new → Advances network from moment listed (Ok tt) old new
+  pub advances : (new : ExecutionSoFar) → Settles network moment listed (Ok tt) ran now → MakesActs network moment now new → Advances network from moment listed (Ok tt) old new
   advances new settles acts = record {
     tried = subst (IsTriedWith made old.moments from moment (Ok tt) new.moments new.acts) (sym (ap (λ (moments : Moments). completed made moments moment listed) (sym runs.moments_are) ∙ settles.taken)) (
       refl,
@@ -106,7 +106,7 @@ module _ (network : KeptNetwork) (from moment : ℕ) (listed : List PointId) (ol
   }
 
 -- a feed that was tried and taken keeps the moments up to its own
-module _ (setting : Setting) (first : Moments) (from moment : ℕ) (listed : List PointId) (new : CourseSoFar) (range : from ≤ moment) (before : AreBefore from first) where
+module _ (setting : Setting) (first : Moments) (from moment : ℕ) (listed : List PointId) (new : ExecutionSoFar) (range : from ≤ moment) (before : AreBefore from first) where
   run_before : AreBefore (moment + 1) (time_runs setting first from (moment - from))
   run_before =
       let same : from + (moment - from) ≡ moment = omega arith in
@@ -124,11 +124,11 @@ module _ (setting : Setting) (first : Moments) (from moment : ℕ) (listed : Lis
   by_result (Ok taken) early is = subst (AreBefore (moment + 1)) (sym is.1) (acted_before setting (moment + 1) moment taken (omega arith) (early taken refl))
   by_result (Err why) early is = cc
 
-  tried_before : IsTried setting first from moment listed (Ok tt) new.moments new.acts → AreBefore (moment + 1) new.moments
+  tried_before : IsTriedFeed setting first from moment listed (Ok tt) new.moments new.acts → AreBefore (moment + 1) new.moments
   tried_before is = by_result (completed setting (time_runs setting first from (moment - from)) moment listed) taken_before is
 
-  -- after it the execution goes on
-  pub goes_after : (network : KeptNetwork) → moment ≤ most_moment → IsTried setting first from moment listed (Ok tt) new.moments new.acts → StandsAt network (moment + 1) new → GoesOn network (moment + 1) new
+  -- after it the execution continues
+  pub goes_after : (network : KeptNetwork) → moment ≤ most_moment → IsTriedFeed setting first from moment listed (Ok tt) new.moments new.acts → StandsAt network (moment + 1) new → ExecutionGoesOn network (moment + 1) new
   goes_after network within is stands = record {
     stands = stands;
     before = tried_before is;

@@ -5,7 +5,7 @@ use Rattle.net_model.specs.declared.ids.PointId.{PointId}
 use Rattle.closure_model.specs.Tables.{Graph}
 use Rattle.dispatch_net.specs.Dispatchable.{DispatchLists, dispatchable}
 use Rattle.execution_model.specs.Laws.{IsDispatchedByClosure}
-use Rattle.execution_model.proofs.GraphLemmas.{closures_are_graphs}
+use Rattle.execution_model.proofs.GraphLemmas.{law_closures_are_graphs}
 use Rattle.execution_model.proofs.OfClosureLemmas.{may_dispatch}
 use Rattle.live_executor.specs.Sound.{IsDispatchOf}
 
@@ -15,7 +15,7 @@ dispatch_of net table order by lists links made = record {
   instant = by.instant;
   table = table;
   order = order;
-  graph = closures_are_graphs net table by.instant.sound by.closure;
+  graph = law_closures_are_graphs net table by.instant.sound by.closure;
   may = may_dispatch net table order by;
   links = links;
   made = made;

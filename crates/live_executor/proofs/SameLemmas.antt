@@ -14,16 +14,16 @@ use Rattle.dispatch_net.specs.Ranked.{IsDispatchTable}
 use Rattle.dispatch_net.specs.Slim.{slim_conditions}
 use Rattle.net_model.specs.Moments.{Moments}
 use Rattle.execution_model.specs.Execution.{Setting, is_due, points_of, time_runs}
-use Rattle.execution_model.specs.Feeding.{completions_taken, first_overdue}
+use Rattle.execution_model.specs.Feeds.{completions_taken, first_overdue}
 use Rattle.execution_model.specs.Laws.{setting_of}
 use Rattle.execution_model.specs.Paced.{IsRankedNetwork, ArePaced, slim_setting}
-use Rattle.execution_model.specs.declared.feeding.Why.{Why}
+use Rattle.execution_model.specs.declared.feed_answers.Why.{Why}
 use Rattle.execution_model.proofs.PacedLemmas.{taken_paced}
 use Rattle.execution_model.proofs.RankedLemmas.{made_is_ranked}
 use Rattle.execution_model.proofs.SameLemmas.{same_points, same_time, settled}
-use Rattle.execution_model.proofs.SlimLemmas.{slim_is_due_the_same}
-use Rattle.live_executor.specs.Sound.{IsDispatchOf, KeptNetwork, kept_network, made_setting, IsKept, ExecutesTheSame}
-use Rattle.live_executor.specs.Taking.{completed}
+use Rattle.execution_model.proofs.SlimLemmas.{law_slim_is_due_the_same}
+use Rattle.live_executor.specs.Sound.{IsDispatchOf, KeptNetwork, kept_network, made_setting, IsKeptNetwork, ExecutesTheSame}
+use Rattle.live_executor.specs.FeedParts.{completed}
 use Rattle.live_executor.specs.Wakes.{WakeLists}
 
 -- ---- which network it is
@@ -32,7 +32,7 @@ made_of net lists wakes of =
     ap (λ (links : List Link). let s : Setting = record { links = links; dispatch = lists.made } in s) of.links
     ∙ ap (λ (dispatch : List Conditions). let s : Setting = record { links = net.links; dispatch = dispatch } in s) of.made
 
-pub executes_the_same : (lists : DispatchLists) (points : ℕ) (wakes : WakeLists) → IsKept lists points → ExecutesTheSame (kept_network lists wakes)
+pub executes_the_same : (lists : DispatchLists) (points : ℕ) (wakes : WakeLists) → IsKeptNetwork lists points → ExecutesTheSame (kept_network lists wakes)
 executes_the_same lists points wakes kept =
     let of = kept.dispatched in
     let is : IsDispatchTable kept.net of.table of.order = record { sound = of.instant.sound; for_network = of.may.for_network; graph = of.graph; closed = of.may.closed; ordered = of.may.ordered } in
@@ -78,7 +78,7 @@ module _ (network : KeptNetwork) (same : ExecutesTheSame network) where
 
   module _ (moments : Moments) (paced : ArePaced made moments) where
     pub due_same : (t : ℕ) (point : PointId) → is_due network.setting moments t point ≡ is_due made moments t point
-    due_same t point = either (λ s. is_due s moments t point ≡ is_due made moments t point) refl (slim_is_due_the_same made same.rank moments same.ranked paced t point)
+    due_same t point = either (λ s. is_due s moments t point ≡ is_due made moments t point) refl (law_slim_is_due_the_same made same.rank moments same.ranked paced t point)
 
     pub time_same : (t count : ℕ) → length moments ≡ length network.made → time_runs network.setting moments t count ≡ time_runs made moments t count
     time_same t count long = either (λ s. time_runs s moments t count ≡ time_runs made moments t count) refl (same_time made same.rank same.ranked count moments t paced long)

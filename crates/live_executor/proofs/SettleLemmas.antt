@@ -1,4 +1,4 @@
--- Each greatest number of a network that goes by brings an act, or none is left.
+-- In as many moments as the greatest number of a network there is an act, or no point is left.
 use Rattle.std.proofs.Common.{◌≡◌, ℕ, zero, suc, ◌+◌, ◌-◌, ◌*◌, ◌<◌, ◌≤◌, Bool, true, false, cond, ◌⊎◌, inl, inr, [], ◌∷◌, length, get_or, Option, Some, None, refl, ap, sym, subst, ◌∙◌, arith}
 use Rattle.std.specs.Prelude.{is_none}
 use Rattle.std.proofs.Math.Nat.{mul-suc}
@@ -9,9 +9,9 @@ use Rattle.net_model.specs.declared.ids.PointId.{PointId}
 use Rattle.net_model.specs.Moments.{Moments}
 use Rattle.execution_model.specs.Execution.{Setting, is_due, acts_at, acted, time_runs}
 use Rattle.execution_model.proofs.MomentLemmas.{moment_due, acted_keeps, due_parts, none_due_no_acts, no_acts_same, length-acted, length-time_runs, time_runs_keeps, time_runs_on}
-use Rattle.live_executor.specs.Course.{left_of}
+use Rattle.live_executor.specs.ExecutionStates.{points_left}
 use Rattle.live_executor.specs.Limits.{AreBefore}
-use Rattle.live_executor.specs.Sound.{IsSound}
+use Rattle.live_executor.specs.Sound.{IsSoundSetting}
 use Rattle.live_executor.proofs.EndLemmas.{due_later}
 use Rattle.live_executor.proofs.MomentLemmas.{time_before}
 use Rattle.live_executor.proofs.TimeLemmas.{IsIdle, still}
@@ -32,24 +32,24 @@ one_less None None m n less none some = cc
 one_less None (Some b) m n less none some = omega (arith, less)
 one_less (Some a) y m n less none some = cc
 
-pub left_cons : (x : Option ℕ) (xs : Moments) → left_of (x ∷ xs) ≡ cond (is_none x) 1 0 + left_of xs
+pub left_cons : (x : Option ℕ) (xs : Moments) → points_left (x ∷ xs) ≡ cond (is_none x) 1 0 + points_left xs
 left_cons x xs = sum_by-cons (λ moment. cond (is_none moment) 1 0) x xs
 
-fewer : (old new : Moments) → length old ≡ length new → StaysCome old new → left_of new ≤ left_of old
+fewer : (old new : Moments) → length old ≡ length new → StaysCome old new → points_left new ≤ points_left old
 fewer [] [] same stays = omega arith
 fewer [] (y ∷ new) same stays = absurd (omega (arith, same))
 fewer (x ∷ old) [] same stays = absurd (omega (arith, same))
 fewer (x ∷ old) (y ∷ new) same stays =
-    rw (left_cons y new, left_cons x old) (one_more x y (left_of old) (left_of new) (fewer old new (omega (arith, same)) (λ k m is. stays (suc k) m is)) (λ m is. stays 0 m is))
+    rw (left_cons y new, left_cons x old) (one_more x y (points_left old) (points_left new) (fewer old new (omega (arith, same)) (λ k m is. stays (suc k) m is)) (λ m is. stays 0 m is))
 
-less_left : (old new : Moments) (k : ℕ) → length old ≡ length new → StaysCome old new → k < length old → get_or old k None ≡ None → is_none (get_or new k None) ≡ false → left_of new < left_of old
+less_left : (old new : Moments) (k : ℕ) → length old ≡ length new → StaysCome old new → k < length old → get_or old k None ≡ None → is_none (get_or new k None) ≡ false → points_left new < points_left old
 less_left [] new k same stays inside none some = absurd (omega (arith, inside))
 less_left (x ∷ old) [] k same stays inside none some = absurd (omega (arith, same))
 less_left (x ∷ old) (y ∷ new) zero same stays inside none some =
-    rw (left_cons y new, left_cons x old) (one_less x y (left_of old) (left_of new) (fewer old new (omega (arith, same)) (λ k m is. stays (suc k) m is)) none some)
+    rw (left_cons y new, left_cons x old) (one_less x y (points_left old) (points_left new) (fewer old new (omega (arith, same)) (λ k m is. stays (suc k) m is)) none some)
 less_left (x ∷ old) (y ∷ new) (suc k) same stays inside none some =
     (let rest = less_left old new k (omega (arith, same)) (λ k m is. stays (suc k) m is) (omega (arith, inside)) none some in
-    let first = one_more x y (left_of old) (suc (left_of new)) rest (λ m is. stays 0 m is) in
+    let first = one_more x y (points_left old) (suc (points_left new)) rest (λ m is. stays 0 m is) in
     rw (left_cons y new, left_cons x old) (omega (arith, first)))
 
 some_is_not_none : (o : Option ℕ) (m : ℕ) → o ≡ Some m → is_none o ≡ false
@@ -79,13 +79,13 @@ module _ (setting : Setting) where
   abbrev IsOver : Moments → Type 0
   IsOver moments = (t : ℕ) → acts_at setting moments t ≡ []
 
-  left_runs : (moments : Moments) (t count : ℕ) → length moments ≡ length setting.dispatch → left_of (time_runs setting moments t count) ≤ left_of moments
+  left_runs : (moments : Moments) (t count : ℕ) → length moments ≡ length setting.dispatch → points_left (time_runs setting moments t count) ≤ points_left moments
   left_runs moments t count whole =
       fewer moments (time_runs setting moments t count) (whole ∙ sym (length-time_runs setting moments t count whole))
       (λ k m is. some_is_not_none (get_or (time_runs setting moments t count) k None) m (time_runs_keeps setting moments t count whole (record { 0 = k }) m is))
 
   pub left_acted : (moments : Moments) (t : ℕ) (point : PointId) → length moments ≡ length setting.dispatch → point.0 < length setting.dispatch → is_due setting moments t point ≡ true
-      → left_of (acted setting moments t) < left_of moments
+      → points_left (acted setting moments t) < points_left moments
   left_acted moments t point whole inside is =
       let due = due_parts setting moments t point is in
       less_left moments (acted setting moments t) point.0 (whole ∙ sym (length-acted setting moments t))
@@ -97,13 +97,13 @@ module _ (setting : Setting) where
 
   -- in some time no point is due, or fewer are left after it
   progress : (moments : Moments) (t count : ℕ) → length moments ≡ length setting.dispatch
-      → IsIdleFrom moments t (t + count) ⊎ (left_of (time_runs setting moments t count) < left_of moments)
+      → IsIdleFrom moments t (t + count) ⊎ (points_left (time_runs setting moments t count) < points_left moments)
   progress moments t zero whole = inl (λ u above below. absurd (omega (arith, above, below)))
   progress moments t (suc count) whole = by (any_passes (is_due setting moments t) (length setting.dispatch)) (progress moments (suc t) count whole)
     where
       by : IsIdle setting moments t ⊎ ((point : PointId) × (point.0 < length setting.dispatch) × (is_due setting moments t point ≡ true))
-          → IsIdleFrom moments (suc t) (suc t + count) ⊎ (left_of (time_runs setting moments (suc t) count) < left_of moments)
-          → IsIdleFrom moments t (t + suc count) ⊎ (left_of (time_runs setting (acted setting moments t) (suc t) count) < left_of moments)
+          → IsIdleFrom moments (suc t) (suc t + count) ⊎ (points_left (time_runs setting moments (suc t) count) < points_left moments)
+          → IsIdleFrom moments t (t + suc count) ⊎ (points_left (time_runs setting (acted setting moments t) (suc t) count) < points_left moments)
       by (inr found) later =
           inr (let less = left_acted moments t found.0 whole found.1 found.2 in
           let more = left_runs (acted setting moments t) (suc t) count (length-acted setting moments t) in omega (arith, less, more))
@@ -112,15 +112,15 @@ module _ (setting : Setting) where
             | inl after ↦ later u (omega arith) (omega (arith, below))
             | inr not_after ↦ (let same : t ≡ u = omega (arith, above, not_after) in subst (IsIdle setting moments) same idle)
           ])
-      by (inl idle) (inr less) = inr (subst (λ (m : Moments). left_of (time_runs setting m (suc t) count) < left_of moments) (sym (idle_same moments t whole idle)) less)
+      by (inl idle) (inr less) = inr (subst (λ (m : Moments). points_left (time_runs setting m (suc t) count) < points_left moments) (sym (idle_same moments t whole idle)) less)
 
   idle_for_ever : (moments : Moments) (from count : ℕ) → length moments ≡ length setting.dispatch → ((t : ℕ) → IsIdle setting moments t)
       → IsOver (time_runs setting moments from count)
   idle_for_ever moments from count whole idle t =
       rw ((still setting moments from count whole (λ u above below. idle u)).same) (none_due_no_acts setting moments t (idle t))
 
-  module _ (sound : IsSound setting) (size : ℕ) (great : most_size ≤ size) (some : 0 < size) where
-    none_left : (moments : Moments) → length moments ≡ length setting.dispatch → left_of moments ≤ 0 → (t : ℕ) → IsIdle setting moments t
+  module _ (sound : IsSoundSetting setting) (size : ℕ) (great : most_size ≤ size) (some : 0 < size) where
+    none_left : (moments : Moments) → length moments ≡ length setting.dispatch → points_left moments ≤ 0 → (t : ℕ) → IsIdle setting moments t
     none_left moments whole none t point inside = by (is_due setting moments t point) refl
       where
         by : (b : Bool) → is_due setting moments t point ≡ b → b ≡ false
@@ -136,7 +136,7 @@ module _ (setting : Setting) where
 
     abbrev IsSettledBy : (left : ℕ) → Moments → (from count : ℕ) → Type 0
     IsSettledBy left moments from count =
-        length moments ≡ length setting.dispatch → AreBefore from moments → left_of moments ≤ left → size * left ≤ count → IsOver (time_runs setting moments from count)
+        length moments ≡ length setting.dispatch → AreBefore from moments → points_left moments ≤ left → size * left ≤ count → IsOver (time_runs setting moments from count)
 
     -- after so many times this size no act is left
     pub settled : (left : ℕ) (moments : Moments) (from count : ℕ) → IsSettledBy left moments from count
@@ -146,7 +146,7 @@ module _ (setting : Setting) where
         more : size * suc left ≡ size * left + size
         more = mul-suc size left
 
-        by : IsIdleFrom moments from (from + size) ⊎ (left_of (time_runs setting moments from size) < left_of moments)
+        by : IsIdleFrom moments from (from + size) ⊎ (points_left (time_runs setting moments from size) < points_left moments)
             → IsSettledBy left (time_runs setting moments from size) (from + size) (count - size) → IsOver (time_runs setting moments from count)
         by (inl idle) next =
             idle_for_ever moments from count whole (quiet moments from (from + size - 1) before (omega (arith, great)) (idle (from + size - 1) (omega (arith, great)) (omega (arith, great))))

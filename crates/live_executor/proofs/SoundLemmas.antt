@@ -21,12 +21,12 @@ use Rattle.closure_model.proofs.BaseLemmas.{all_contained}
 use Rattle.dispatch_net.specs.Laws.{AreExact}
 use Rattle.dispatch_net.specs.declared.dispatch.Conditions.{Conditions}
 use Rattle.dispatch_net.proofs.ExecutionLemmas.{dispatchable_length, point_count}
-use Rattle.dispatch_net.proofs.ExactLemmas.{lists_are_exact}
+use Rattle.dispatch_net.proofs.ExactLemmas.{law_lists_are_exact}
 use Rattle.dispatch_net.specs.Held.{IsSlimOrWhole}
 use Rattle.dispatch_net.specs.Slim.{is_bound_implied, is_wait_implied, slim_conditions, slimmed}
 use Rattle.execution_model.specs.Execution.{Setting, link_to}
-use Rattle.live_executor.specs.Awaited.{AreActivated}
-use Rattle.live_executor.specs.Sound.{IsLowerBound, IsWait, IsLinkOf, IsSound, IsDispatchOf, IsKeptWith}
+use Rattle.live_executor.specs.ExpectedPoints.{AreActivated}
+use Rattle.live_executor.specs.Sound.{IsLowerBound, IsWait, IsLinkWithin, IsSoundSetting, IsDispatchOf, IsKeptWith}
 use Rattle.live_executor.specs.Wakes.{WakeLists, AreWakesOf}
 
 some_or_none : {X : Type 0} (o : Option X) (A : Type 0) → (is_some o ≡ true → A) → (is_some o ≡ false → A) → A
@@ -66,7 +66,7 @@ module _ (net : Plan) (lists : DispatchLists) (of : IsDispatchOf net lists) wher
   conditions_sound : (point : PointId) → IsPoint net point
       → All (IsLowerBound (length net.points)) (conditions_at lists.made point).lower_bounds × All (IsWait (length net.links)) (conditions_at lists.made point).waits
   conditions_sound point is_point =
-      let exact = lists_are_exact net of.table point of.may.for_network of.graph is_point in
+      let exact = law_lists_are_exact net of.table point of.may.for_network of.graph is_point in
       rw of.made (some_or_none (activation net point) _
       (λ some. rw (exact.1 some) (All-nil (IsLowerBound (length net.points)), All-nil (IsWait (length net.links))))
       (λ none. (bound_sound point (conditions_at (dispatchable net of.table) point) (exact.0 (is_point, none)), wait_sound point (conditions_at (dispatchable net of.table) point) (exact.0 (is_point, none)))))
@@ -80,7 +80,7 @@ module _ (net : Plan) (lists : DispatchLists) (of : IsDispatchOf net lists) wher
   low_size : (low high : ℤ) → pos 1 ≤ℤ low → low ≤ℤ high → unsigned_abs high ≤ most_size → unsigned_abs low ≤ most_size
   low_size low high first second third = omega (arith, ints, first, second, third)
 
-  made_link_sound : (link : Link) → IsLink net link → IsLinkOf (length lists.made) link
+  made_link_sound : (link : Link) → IsLink net link → IsLinkWithin (length lists.made) link
   made_link_sound link is = record {
     from_point = (let low = is.from_point in omega (arith, count, low));
     to_point = (let low = is.to_point in omega (arith, count, low));
@@ -88,16 +88,16 @@ module _ (net : Plan) (lists : DispatchLists) (of : IsDispatchOf net lists) wher
     high = leb-true (unsigned_abs link.high) most_size is.within;
   }
 
-  pub dispatch_sound : IsSound (record { links = net.links; dispatch = lists.made })
+  pub dispatch_sound : IsSoundSetting (record { links = net.links; dispatch = lists.made })
   dispatch_sound = record {
     bounds = λ k d inside. rw (at_index k d inside, count) ((conditions_sound (record { 0 = k }) (omega (arith, inside, count))).0);
     waits = λ k d inside. rw (at_index k d inside) ((conditions_sound (record { 0 = k }) (omega (arith, inside, count))).1);
-    links = All-weaker (IsLink net) (IsLinkOf (length lists.made)) made_link_sound net.links of.instant.sound.links_sound;
+    links = All-weaker (IsLink net) (IsLinkWithin (length lists.made)) made_link_sound net.links of.instant.sound.links_sound;
     few = (let few = of.instant.sound.few_points in omega (arith, few, count));
   }
 
 -- what is left of lists when others are left out is sound too
-slim_sound : (links : List Link) (made : List Conditions) → IsSound (record { links = links; dispatch = made }) → IsSound (record { links = links; dispatch = slimmed links made })
+slim_sound : (links : List Link) (made : List Conditions) → IsSoundSetting (record { links = links; dispatch = made }) → IsSoundSetting (record { links = links; dispatch = slimmed links made })
 slim_sound links made sound =
     let long : length (slimmed links made) ≡ length made = length-map made (slim_conditions links made) in
     record {
@@ -106,7 +106,7 @@ slim_sound links made sound =
           (All-filter (λ bound. not (is_bound_implied links made (get_or made k d) bound)) (IsLowerBound (length made)) (get_or made k d).lower_bounds (sound.bounds k d inside)));
       waits = All-map (λ (c : Conditions). All (IsWait (length links)) c.waits) (slim_conditions links made) made (λ k d inside.
           All-filter (λ wait. not (is_wait_implied links made (get_or made k d) wait)) (IsWait (length links)) (get_or made k d).waits (sound.waits k d inside));
-      links = subst (λ n. All (IsLinkOf n) links) (sym long) sound.links;
+      links = subst (λ n. All (IsLinkWithin n) links) (sym long) sound.links;
       few = (let few = sound.few in omega (arith, long, few));
     }
 
@@ -115,15 +115,15 @@ kept_length lists (inl whole) = ap (λ (cs : List Conditions). length cs) whole
 kept_length lists (inr slim) = ap (λ (cs : List Conditions). length cs) slim ∙ length-map lists.made (slim_conditions lists.links lists.made)
 
 module _ (net : Plan) (lists : DispatchLists) (of : IsDispatchOf net lists) (slim_or_whole : IsSlimOrWhole lists.links lists.made lists.kept) where
-  pub kept_sound : IsSound (record { links = lists.links; dispatch = lists.kept })
+  pub kept_sound : IsSoundSetting (record { links = lists.links; dispatch = lists.kept })
   kept_sound = by slim_or_whole
     where
-      made_sound : IsSound (record { links = lists.links; dispatch = lists.made })
-      made_sound = subst (λ (links : List Link). IsSound (record { links = links; dispatch = lists.made })) (sym of.links) (dispatch_sound net lists of)
+      made_sound : IsSoundSetting (record { links = lists.links; dispatch = lists.made })
+      made_sound = subst (λ (links : List Link). IsSoundSetting (record { links = links; dispatch = lists.made })) (sym of.links) (dispatch_sound net lists of)
 
-      by : IsSlimOrWhole lists.links lists.made lists.kept → IsSound (record { links = lists.links; dispatch = lists.kept })
-      by (inl whole) = subst (λ (cs : List Conditions). IsSound (record { links = lists.links; dispatch = cs })) (sym whole) made_sound
-      by (inr slim) = subst (λ (cs : List Conditions). IsSound (record { links = lists.links; dispatch = cs })) (sym slim) (slim_sound lists.links lists.made made_sound)
+      by : IsSlimOrWhole lists.links lists.made lists.kept → IsSoundSetting (record { links = lists.links; dispatch = lists.kept })
+      by (inl whole) = subst (λ (cs : List Conditions). IsSoundSetting (record { links = lists.links; dispatch = cs })) (sym whole) made_sound
+      by (inr slim) = subst (λ (cs : List Conditions). IsSoundSetting (record { links = lists.links; dispatch = cs })) (sym slim) (slim_sound lists.links lists.made made_sound)
 
   pub kept_count : (points : ℕ) → points ≡ length net.points → points ≡ length lists.kept
   kept_count points same_points = same_points ∙ (sym (count net lists of) ∙ sym (kept_length lists slim_or_whole))
@@ -146,5 +146,5 @@ found_has P p (x ∷ xs) all = either P x (find p xs) (p x) (All-head P x xs all
     either P x later false here there = there
 
 -- the link that ends in a point is sound
-pub link_sound : (setting : Setting) (point : PointId) → IsSound setting → IfSome (link_to setting point) (IsLinkOf (length setting.dispatch))
-link_sound setting point sound = found_has (IsLinkOf (length setting.dispatch)) (λ (link : Link). link.to.0 == point.0) setting.links sound.links
+pub link_sound : (setting : Setting) (point : PointId) → IsSoundSetting setting → IfSome (link_to setting point) (IsLinkWithin (length setting.dispatch))
+link_sound setting point sound = found_has (IsLinkWithin (length setting.dispatch)) (λ (link : Link). link.to.0 == point.0) setting.links sound.links

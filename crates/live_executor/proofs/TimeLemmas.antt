@@ -1,9 +1,9 @@
--- Time by leaps is time by steps: where no point is due nothing changes.
+-- Time by leaps is time by steps: if no point is due nothing changes.
 use Rattle.std.proofs.Common.{◌≡◌, ℕ, zero, suc, ◌+◌, ◌-◌, ◌<◌, ◌≤◌, false, List, [], ◌++◌, length, refl, ap, sym, ◌∙◌, arith, append_assoc, append-nil}
 use Rattle.net_model.specs.declared.ids.PointId.{PointId}
 use Rattle.net_model.specs.Moments.{Moments}
 use Rattle.execution_model.specs.Execution.{Setting, is_due, acts_at, acted, time_runs, acts_while}
-use Rattle.execution_model.specs.declared.feeding.Act.{Act}
+use Rattle.execution_model.specs.declared.feed_answers.Act.{Act}
 use Rattle.execution_model.proofs.MomentLemmas.{none_due_no_acts, no_acts_same, time_runs_on}
 
 -- no point is due at t
@@ -51,7 +51,7 @@ module _ (setting : Setting) where
       ∙ sym (append_assoc now (acts_while setting next (suc t) a) (acts_while setting (time_runs setting next (suc t) a) (suc t + a) b))
       ∙ ap (λ u. (now ++ acts_while setting next (suc t) a) ++ acts_while setting (time_runs setting next (suc t) a) u b) (plus_suc t a)
 
-  -- time goes on from the moments that it has come to
+  -- time continues from the moments that it has come to
   module _ (first : Moments) (from a : ℕ) (moments : Moments) (next : ℕ) (start : from + a ≡ next) (are : moments ≡ time_runs setting first from a) where
     runs_on : (c : ℕ) → time_runs setting first from (a + c) ≡ time_runs setting moments next c
     runs_on c =

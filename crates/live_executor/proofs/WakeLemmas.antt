@@ -8,7 +8,7 @@ use Rattle.std.proofs.lemmas.Bool.Decides.{nat_tests}
 use Rattle.std.proofs.lemmas.List.{get_or_past, get_or-set_same, get_or-set_other, get_or-replicate, length-replicate}
 use Rattle.std.proofs.lemmas.List.Sums.{sum_by-cons, sum_by-take-le, count_by_more_yes, count_by_more_no}
 use Rattle.std.proofs.lemmas.List.Folds.{list_any_more}
-use Rattle.closure_model.specs.Orders.{is_among}
+use Rattle.closure_model.specs.Orders.{contains_point}
 use Rattle.closure_model.proofs.Lists.{Contains-none, Contains-head, Contains-tail, Contains-cases}
 use Rattle.net_model.specs.declared.ids.PointId.{PointId}
 use Rattle.net_model.specs.declared.ids.LinkId.{LinkId}
@@ -17,18 +17,18 @@ use Rattle.dispatch_net.specs.declared.dispatch.Conditions.{Conditions}
 use Rattle.dispatch_net.specs.Dispatchable.{conditions_at, no_conditions}
 use Rattle.net_model.specs.Moments.{Moments, moment_of}
 use Rattle.execution_model.specs.Execution.{Setting, has_come, has_gone_by, link_to, meets_bound, meets_wait_for, meets_wait, meets, is_due}
-use Rattle.execution_model.specs.Feeding.{completed_at}
+use Rattle.execution_model.specs.Feeds.{completed_at}
 use Rattle.execution_model.proofs.OneByOneLemmas.{all_alike}
 use Rattle.execution_model.proofs.MomentLemmas.{length-completed_at, moment_completed, moment_of_other, come_not_due}
-use Rattle.live_executor.specs.Due.{has_begun, PassesFrom}
-use Rattle.live_executor.specs.Waking.{is_open_bound, is_open_wait, open_count, condition_count, is_bound_after, is_wait_from, fixed_by, times, AreWoken, PassesSince, AreDueSince, IsAwake, IsFoundOrKept}
+use Rattle.live_executor.specs.Due.{holds_from, PassesFrom}
+use Rattle.live_executor.specs.WokenPoints.{is_open_bound, is_open_wait, open_count, condition_count, is_bound_after, is_wait_from, count_fixed_by, times, AreWoken, PassesSince, AreDueSince, IsAwake, IsFoundOrKept}
 
 -- ---- counts
 module _ {X : Type 0} (p : X → Bool) where
   pub count_cons : (x : X) (xs : List X) → count_by p (x ∷ xs) ≡ cond (p x) 1 0 + count_by p xs
   count_cons x xs = sum_by-cons (λ y. cond (p y) 1 0) x xs
 
-  -- a count is 0 where nothing passes
+  -- a count is 0 if nothing passes
   pub count_zero : (xs : List X) → count_by p xs ≡ 0 → (x : X) → Contains xs x → p x ≡ false
   count_zero [] none x among = absurd (Contains-none x among)
   count_zero (y ∷ ys) none x among = by (count_zero ys) (p y) refl (count_cons y ys)
@@ -37,7 +37,7 @@ module _ {X : Type 0} (p : X → Bool) where
       by rest true is counts = absurd (omega (arith, none, counts))
       by rest false is counts = elim (Contains-cases y ys x among) [ inl same ↦ ap p (sym same) ∙ is | inr there ↦ rest (omega (arith, none, counts)) x there ]
 
-  -- and something passes where it isn't
+  -- and something passes if it isn't
   count_some : (xs : List X) → count_by p xs ≢ 0 → (x : X) × Contains xs x × (p x ≡ true)
   count_some [] some = absurd (some refl)
   count_some (y ∷ ys) some = by (count_some ys) (p y) refl (count_cons y ys)
@@ -141,14 +141,14 @@ module _ (setting : Setting) (moments : Moments) (moment : ℕ) (point : PointId
       by None = refl
       by (Some link) = point_splits link.from
 
-  pub count_falls : (c : Conditions) → open_count setting after c + fixed_by setting point c ≡ open_count setting moments c
-  count_falls c =
+  pub count_decreases : (c : Conditions) → open_count setting after c + count_fixed_by setting point c ≡ open_count setting moments c
+  count_decreases c =
       let bounds = count_splits (is_open_bound after) (is_bound_after point) (is_open_bound moments) c.lower_bounds (λ bound. point_splits bound.0) in
       let waits = count_splits (is_open_wait setting.links after) (is_wait_from setting.links point) (is_open_wait setting.links moments) c.waits wait_splits in
       omega (arith, bounds, waits)
 
   -- conditions that neither wait for the point nor end with it are met as before
-  module _ (t : ℕ) (c : Conditions) (fixes_none : fixed_by setting point c ≡ 0)
+  module _ (t : ℕ) (c : Conditions) (fixes_none : count_fixed_by setting point c ≡ 0)
       (ends_none : (wait : LinkId × ℤ) (link : Link) → Contains c.waits wait → slice_get setting.links wait.0.0 ≡ Some link → link.to.0 == point.0 ≡ false) where
     bound_same : (bound : PointId × ℤ) → Contains c.lower_bounds bound → meets_bound after t bound ≡ meets_bound moments t bound
     bound_same bound among =
@@ -170,18 +170,18 @@ module _ (setting : Setting) (moments : Moments) (moment : ℕ) (point : PointId
     meets_same = λ i. all_alike (meets_bound after t) (meets_bound moments t) c.lower_bounds bound_same i && all_alike (meets_wait setting after t) (meets_wait setting moments t) c.waits wait_same i
 
 -- ---- what is kept
-pub is_among_times : (points : List PointId) (point : PointId) → is_among points point ≡ false → times points point ≡ 0
+pub is_among_times : (points : List PointId) (point : PointId) → contains_point points point ≡ false → times points point ≡ 0
 is_among_times [] point absent = refl
 is_among_times (p ∷ ps) point absent = by (is_among_times ps point) (p.0 == point.0) refl absent (count_cons (λ (other : PointId). other.0 == point.0) p ps)
   where
-    by : (is_among ps point ≡ false → times ps point ≡ 0) → (b : Bool) → p.0 == point.0 ≡ b → (b || is_among ps point) ≡ false → times (p ∷ ps) point ≡ cond b 1 0 + times ps point → times (p ∷ ps) point ≡ 0
+    by : (contains_point ps point ≡ false → times ps point ≡ 0) → (b : Bool) → p.0 == point.0 ≡ b → (b || contains_point ps point) ≡ false → times (p ∷ ps) point ≡ cond b 1 0 + times ps point → times (p ∷ ps) point ≡ 0
     by rest true same absent counts = absurd (true≢false absent)
     by rest false differs absent counts = let none = rest absent in omega (arith, counts, none)
 
 due_set : (due : Moments) (point : PointId) (value : Option ℕ) (other : PointId) → other.0 ≢ point.0 → moment_of (slice_set due point.0 value) other ≡ moment_of due other
 due_set due point value other differs = get_or-set_other due point.0 other.0 value None differs
 
--- a point gets its moment: it had none, and whom it wakes is known; the counts were lowered, and then those found anew that it wakes
+-- a point gets its moment: it had none, and the points that it wakes are known; the counts were lowered, and then those that it wakes were recomputed
 pub record HasWoken (setting : Setting) (moments : Moments) (counts lowered : List ℕ) (due woken last : Moments) (fixes ends : List PointId) (point : PointId) (moment : ℕ) : Type 0 where
   pub awake : IsAwake setting moment moments counts due
   pub wakes : AreWoken setting point fixes ends
@@ -206,39 +206,39 @@ module _ (setting : Setting) (moments : Moments) (counts lowered : List ℕ) (du
 
   counted : (other : PointId) → other.0 < length setting.dispatch → slice_index lowered other.0 ≡ open_count setting come (lists other)
   counted other within =
-      let falls = count_falls setting moments moment point has.new in_moments (lists other) in
-      let fell = has.lower other in
+      let descends = count_decreases setting moments moment point has.new in_moments (lists other) in
+      let decreased = has.lower other in
       let before = has.awake.counted other within in
       let fixed = has.wakes.fixed other in
-      omega (arith, falls, fell, before, fixed)
+      omega (arith, descends, decreased, before, fixed)
 
   -- the point itself is no longer due
   point_known : (other : PointId) → other ≡ point → moment_of last other ≡ moment_of (slice_set due point.0 None) other → PassesSince moment (λ t. is_due setting come t other) (moment_of last other)
   point_known other same kept =
       let none : moment_of (slice_set due point.0 None) other ≡ None = ap (moment_of (slice_set due point.0 None)) same ∙ get_or-set_same due point.0 None None (omega (arith, has.inside, has.awake.due_count)) in (
         (λ t from. come_not_due setting come t other moment (ap (moment_of come) same ∙ moment_completed moments moment point in_moments)
-            ∙ sym (ap (λ (o : Option ℕ). has_begun o t) (kept ∙ none))),
+            ∙ sym (ap (λ (o : Option ℕ). holds_from o t) (kept ∙ none))),
         subst (λ (o : Option ℕ). IfSome o (λ k. moment ≤ k)) (sym (kept ∙ none)) tt,
       )
 
   -- nor does another change that has open conditions, or that the point doesn't wake
   other_test : (other : PointId) → other.0 < length setting.dispatch → other.0 == point.0 ≡ false → moment_of last other ≡ moment_of (slice_set due point.0 None) other
-      → (slice_index lowered other.0 ≡ 0 → is_among fixes other ≡ false) → (slice_index lowered other.0 ≡ 0 → is_among ends other ≡ false)
-      → (t : ℕ) → moment ≤ t → is_due setting come t other ≡ has_begun (moment_of last other) t
+      → (slice_index lowered other.0 ≡ 0 → contains_point fixes other ≡ false) → (slice_index lowered other.0 ≡ 0 → contains_point ends other ≡ false)
+      → (t : ℕ) → moment ≤ t → is_due setting come t other ≡ holds_from (moment_of last other) t
   other_test other within differs kept no_fix no_end t from =
       let as_before : moment_of last other ≡ moment_of due other = kept ∙ due_set due point None other (apart setting moments moment point has.new in_moments other point differs) in
-      by (cases_order (slice_index lowered other.0) 0) ∙ ((has.awake.known other within).0 t from ∙ sym (ap (λ (o : Option ℕ). has_begun o t) as_before))
+      by (cases_order (slice_index lowered other.0) 0) ∙ ((has.awake.known other within).0 t from ∙ sym (ap (λ (o : Option ℕ). holds_from o t) as_before))
     where
       some_open : 0 < slice_index lowered other.0 → is_due setting come t other ≡ is_due setting moments t other
       some_open above =
           let now = counted other within in
           let before = has.awake.counted other within in
-          let fell = has.lower other in
-          open_not_due setting come t other (λ none. omega (arith, none, now, above)) ∙ sym (open_not_due setting moments t other (λ none. omega (arith, none, before, fell, above)))
+          let decreased = has.lower other in
+          open_not_due setting come t other (λ none. omega (arith, none, now, above)) ∙ sym (open_not_due setting moments t other (λ none. omega (arith, none, before, decreased, above)))
 
       none_open : slice_index lowered other.0 ≡ 0 → is_due setting come t other ≡ is_due setting moments t other
       none_open none =
-          let fixed : fixed_by setting point (lists other) ≡ 0 = sym (has.wakes.fixed other) ∙ is_among_times fixes other (no_fix none) in
+          let fixed : count_fixed_by setting point (lists other) ≡ 0 = sym (has.wakes.fixed other) ∙ is_among_times fixes other (no_fix none) in
           let met = meets_same setting moments moment point has.new in_moments t (lists other) fixed (ends_differ none) in
           let its = other_moment setting moments moment point has.new in_moments other differs in
           λ i. is_none (link_to setting other) && is_none (its i) && met i
@@ -256,7 +256,7 @@ module _ (setting : Setting) (moments : Moments) (counts lowered : List ℕ) (du
       by (inr (inr above)) = some_open above
 
   other_known : (other : PointId) → other.0 < length setting.dispatch → other.0 == point.0 ≡ false → moment_of last other ≡ moment_of (slice_set due point.0 None) other
-      → (slice_index lowered other.0 ≡ 0 → is_among fixes other ≡ false) → (slice_index lowered other.0 ≡ 0 → is_among ends other ≡ false)
+      → (slice_index lowered other.0 ≡ 0 → contains_point fixes other ≡ false) → (slice_index lowered other.0 ≡ 0 → contains_point ends other ≡ false)
       → PassesSince moment (λ t. is_due setting come t other) (moment_of last other)
   other_known other within differs kept no_fix no_end =
       let as_before : moment_of last other ≡ moment_of due other = kept ∙ due_set due point None other (apart setting moments moment point has.new in_moments other point differs) in
@@ -267,7 +267,7 @@ module _ (setting : Setting) (moments : Moments) (counts lowered : List ℕ) (du
       elim (has.second other) [
         | inl found ↦ found
         | inr (same, no_end) ↦ elim (has.first other) [
-          | inl found ↦ ((λ t from. found.0 t from ∙ sym (ap (λ (o : Option ℕ). has_begun o t) same)), subst (λ (o : Option ℕ). IfSome o (λ k. moment ≤ k)) (sym same) found.1)
+          | inl found ↦ ((λ t from. found.0 t from ∙ sym (ap (λ (o : Option ℕ). holds_from o t) same)), subst (λ (o : Option ℕ). IfSome o (λ k. moment ≤ k)) (sym same) found.1)
           | inr (kept, no_fix) ↦ elim (cases_Bool (other.0 == point.0)) [
             | inl is ↦ point_known other (same_number setting moments moment point has.new in_moments other point is) (same ∙ kept)
             | inr differs ↦ other_known other within differs (same ∙ kept) no_fix no_end
@@ -298,9 +298,9 @@ module _ (counts before now : List ℕ) (waiters : List PointId) (i : ℕ) (insi
   more_elsewhere : (d point : PointId) → (here d).0 == point.0 ≡ false → times (take (i + 1) waiters) point ≡ times (take i waiters) point
   more_elsewhere d point differs = count_by_more_no (λ (other : PointId). other.0 == point.0) waiters i d inside differs
 
-  pub room_to_lower : (d : PointId) → ((point : PointId) → times waiters point ≤ slice_index counts point.0)
+  pub enough_to_lower : (d : PointId) → ((point : PointId) → times waiters point ≤ slice_index counts point.0)
       → ((point : PointId) → slice_index before point.0 + times (take i waiters) point ≡ slice_index counts point.0) → 1 ≤ slice_index before (here d).0
-  room_to_lower d enough each =
+  enough_to_lower d enough each =
       let more = more_here d in
       let most = at_most (here d) in
       let all = enough (here d) in
@@ -311,15 +311,15 @@ module _ (counts before now : List ℕ) (waiters : List PointId) (i : ℕ) (insi
       → ((point : PointId) → slice_index before point.0 + times (take i waiters) point ≡ slice_index counts point.0)
       → now ≡ slice_set before (here d).0 (slice_index before (here d).0 - 1)
       → (point : PointId) → slice_index now point.0 + times (take (i + 1) waiters) point ≡ slice_index counts point.0
-  lowered_more d within room each set point = by ((here d).0 == point.0) refl
+  lowered_more d within spare_capacity each set point = by ((here d).0 == point.0) refl
     where
       by : (b : Bool) → (here d).0 == point.0 ≡ b → slice_index now point.0 + times (take (i + 1) waiters) point ≡ slice_index counts point.0
       by true same =
           let is : here d ≡ point = ap (λ (k : ℕ). let p : PointId = record { 0 = k } in p) (eqb-true (here d).0 point.0 same) in
-          let fell : slice_index now (here d).0 ≡ slice_index before (here d).0 - 1 = ap (λ (xs : List ℕ). slice_index xs (here d).0) set ∙ get_or-set_same before (here d).0 (slice_index before (here d).0 - 1) 0 within in
+          let decreased : slice_index now (here d).0 ≡ slice_index before (here d).0 - 1 = ap (λ (xs : List ℕ). slice_index xs (here d).0) set ∙ get_or-set_same before (here d).0 (slice_index before (here d).0 - 1) 0 within in
           let more = more_here d in
           let so_far = each (here d) in
-          subst (λ (p : PointId). slice_index now p.0 + times (take (i + 1) waiters) p ≡ slice_index counts p.0) is (omega (arith, fell, more, so_far, room))
+          subst (λ (p : PointId). slice_index now p.0 + times (take (i + 1) waiters) p ≡ slice_index counts p.0) is (omega (arith, decreased, more, so_far, spare_capacity))
       by false differs =
           let apart : point.0 ≢ (here d).0 = grind (arith, nat_tests) in
           let kept : slice_index now point.0 ≡ slice_index before point.0 = ap (λ (xs : List ℕ). slice_index xs point.0) set ∙ get_or-set_other before (here d).0 point.0 (slice_index before (here d).0 - 1) 0 apart in
@@ -331,18 +331,18 @@ module _ (now : ℕ) (setting : Setting) (moments : Moments) (counts : List ℕ)
   abbrev waiter : PointId
   waiter = get_or waiters i d
 
-  absent_more : (point : PointId) → is_among (take i waiters) point ≡ false → waiter.0 == point.0 ≡ false → is_among (take (i + 1) waiters) point ≡ false
+  absent_more : (point : PointId) → contains_point (take i waiters) point ≡ false → waiter.0 == point.0 ≡ false → contains_point (take (i + 1) waiters) point ≡ false
   absent_more point absent differs =
       list_any_more (λ (other : PointId). other.0 == point.0) waiters i d inside
       ∙ (ap (λ (b : Bool). b || waiter.0 == point.0) absent ∙ differs)
 
-  -- a waiter with open conditions is left
+  -- a woken point with open conditions is left
   pub left_more : slice_index counts waiter.0 ≢ 0 → (point : PointId) → IsFoundOrKept now setting moments counts (take i waiters) old before point
       → IsFoundOrKept now setting moments counts (take (i + 1) waiters) old before point
   left_more open_it point (inl found) = inl found
   left_more open_it point (inr (same, absent)) = inr (same, λ none. by none (waiter.0 == point.0) refl)
     where
-      by : slice_index counts point.0 ≡ 0 → (b : Bool) → waiter.0 == point.0 ≡ b → is_among (take (i + 1) waiters) point ≡ false
+      by : slice_index counts point.0 ≡ 0 → (b : Bool) → waiter.0 == point.0 ≡ b → contains_point (take (i + 1) waiters) point ≡ false
       by none true is = absurd (open_it (ap (slice_index counts) (eqb-true waiter.0 point.0 is) ∙ none))
       by none false differs = absent_more point (absent none) differs
 
@@ -357,10 +357,11 @@ module _ (now : ℕ) (setting : Setting) (moments : Moments) (counts : List ℕ)
       by true same so_far =
           let is : waiter ≡ point = ap (λ (k : ℕ). let p : PointId = record { 0 = k } in p) (eqb-true waiter.0 point.0 same) in
           let its : moment_of (slice_set before waiter.0 value) waiter ≡ value = get_or-set_same before waiter.0 value None within in
-          inl (subst (λ (p : PointId). PassesSince now (λ t. is_due setting moments t p) (moment_of (slice_set before waiter.0 value) p)) is ((λ t from. passes.0 t from ∙ sym (ap (λ (o : Option ℕ). has_begun o t) its)), subst (λ (o : Option ℕ). IfSome o (λ k. now ≤ k)) (sym its) passes.1))
+          inl (subst (λ (p : PointId). PassesSince now (λ t. is_due setting moments t p) (moment_of (slice_set before waiter.0 value) p)) is
+          ((λ t from. passes.0 t from ∙ sym (ap (λ (o : Option ℕ). holds_from o t) its)), subst (λ (o : Option ℕ). IfSome o (λ k. now ≤ k)) (sym its) passes.1))
       by false differs (inl found) =
           let apart : point.0 ≢ waiter.0 = grind (arith, nat_tests) in
-          inl ((λ t from. found.0 t from ∙ sym (ap (λ (o : Option ℕ). has_begun o t) (due_set before waiter value point apart))), subst (λ (o : Option ℕ). IfSome o (λ k. now ≤ k)) (sym (due_set before waiter value point apart)) found.1)
+          inl ((λ t from. found.0 t from ∙ sym (ap (λ (o : Option ℕ). holds_from o t) (due_set before waiter value point apart))), subst (λ (o : Option ℕ). IfSome o (λ k. now ≤ k)) (sym (due_set before waiter value point apart)) found.1)
       by false differs (inr (same, absent)) =
           let apart : point.0 ≢ waiter.0 = grind (arith, nat_tests) in
           inr (due_set before waiter value point apart ∙ same, λ none. absent_more point (absent none) differs)
@@ -371,11 +372,11 @@ enough_counted setting moments counts due point fixes ends moment awake wakes ne
     let fixed = wakes.fixed other in
     elim (cases_lt other.0 (length setting.dispatch)) [
       | inl within ↦
-          (let falls = count_falls setting moments moment point new (omega (arith, inside, awake.moments_count)) (conditions_at setting.dispatch other) in
+          (let descends = count_decreases setting moments moment point new (omega (arith, inside, awake.moments_count)) (conditions_at setting.dispatch other) in
           let counted = awake.counted other within in
-          omega (arith, falls, counted, fixed))
+          omega (arith, descends, counted, fixed))
       | inr past ↦
-          (let none : fixed_by setting point (conditions_at setting.dispatch other) ≡ 0 = ap (fixed_by setting point) (get_or_past setting.dispatch other.0 no_conditions past) in
+          (let none : count_fixed_by setting point (conditions_at setting.dispatch other) ≡ 0 = ap (count_fixed_by setting point) (get_or_past setting.dispatch other.0 no_conditions past) in
           omega (arith, none, fixed))
     ]
 

@@ -9,7 +9,7 @@ use Rattle.std.proofs.lemmas.List.{get_or_past, get_or-set_same, get_or-set_othe
 use Rattle.std.proofs.lemmas.List.Elements.{All-append, All-nil, All-cons}
 use Rattle.std.proofs.lemmas.List.Sums.{sum_by-append, sum_by-cons, fold-append}
 use Rattle.std.proofs.lemmas.Option.{none-some, same_Some, slice_get_cases}
-use Rattle.closure_model.specs.Orders.{is_among}
+use Rattle.closure_model.specs.Orders.{contains_point}
 use Rattle.closure_model.proofs.Lists.{Contains-head, Contains-tail}
 use Rattle.net_model.specs.declared.ids.PointId.{PointId}
 use Rattle.net_model.specs.declared.ids.LinkId.{LinkId}
@@ -17,8 +17,8 @@ use Rattle.net_model.specs.declared.part.Link.{Link}
 use Rattle.dispatch_net.specs.declared.dispatch.Conditions.{Conditions}
 use Rattle.dispatch_net.specs.Dispatchable.{conditions_at, no_conditions}
 use Rattle.execution_model.specs.Execution.{Setting}
-use Rattle.live_executor.specs.Waking.{times, is_bound_after, is_wait_from, fixed_by, AreWoken}
-use Rattle.live_executor.specs.Wakes.{WakeLists, list_at, added, gathered, bound_place, wait_place, with_point, is_wait_to, AreWakesOf}
+use Rattle.live_executor.specs.WokenPoints.{times, is_bound_after, is_wait_from, count_fixed_by, AreWoken}
+use Rattle.live_executor.specs.Wakes.{WakeLists, list_at, added_to_list, gathered, bound_place, wait_place, with_point_wakes, is_wait_to, AreWakesOf}
 use Rattle.live_executor.proofs.WakeLemmas.{count_cons, count_zero, is_among_times}
 
 abbrev one_if : Bool → ℕ
@@ -41,44 +41,44 @@ times_differs points point other differs =
     let none : one_if (point.0 == other.0) ≡ 0 = ap one_if differs in
     omega (arith, push, none)
 
-pub length-added : (lists : List (List PointId)) (place point : PointId) → length (added lists place point) ≡ length lists
-length-added lists place point = length-set lists place.0 (list_at lists place ++ point ∷ [])
+pub length-added_to_list : (lists : List (List PointId)) (place point : PointId) → length (added_to_list lists place point) ≡ length lists
+length-added_to_list lists place point = length-set lists place.0 (list_at lists place ++ point ∷ [])
 
 module _ (lists : List (List PointId)) (place point : PointId) (inside : place.0 < length lists) where
-  here : list_at (added lists place point) place ≡ list_at lists place ++ point ∷ []
+  here : list_at (added_to_list lists place point) place ≡ list_at lists place ++ point ∷ []
   here = get_or-set_same lists place.0 (list_at lists place ++ point ∷ []) [] inside
 
-  elsewhere : (p : PointId) → place.0 == p.0 ≡ false → list_at (added lists place point) p ≡ list_at lists p
+  elsewhere : (p : PointId) → place.0 == p.0 ≡ false → list_at (added_to_list lists place point) p ≡ list_at lists p
   elsewhere p differs = get_or-set_other lists place.0 p.0 (list_at lists place ++ point ∷ []) [] (let apart : p.0 ≢ place.0 = grind (arith, nat_tests) in apart)
 
   at_place : (P : PointId → Type 0) (p : PointId) → place.0 == p.0 ≡ true → P place → P p
   at_place P p same holds = subst (λ (k : ℕ). P (record { 0 = k })) (eqb-true place.0 p.0 same) holds
 
-  pub added_same : (p : PointId) → times (list_at (added lists place point) p) point ≡ times (list_at lists p) point + cond (place.0 == p.0) 1 0
+  pub added_same : (p : PointId) → times (list_at (added_to_list lists place point) p) point ≡ times (list_at lists p) point + cond (place.0 == p.0) 1 0
   added_same p = by (place.0 == p.0) refl
     where
-      by : (b : Bool) → place.0 == p.0 ≡ b → times (list_at (added lists place point) p) point ≡ times (list_at lists p) point + cond b 1 0
+      by : (b : Bool) → place.0 == p.0 ≡ b → times (list_at (added_to_list lists place point) p) point ≡ times (list_at lists p) point + cond b 1 0
       by true same =
-          at_place (λ (q : PointId). times (list_at (added lists place point) q) point ≡ times (list_at lists q) point + 1) p same
+          at_place (λ (q : PointId). times (list_at (added_to_list lists place point) q) point ≡ times (list_at lists q) point + 1) p same
           (ap (λ (ps : List PointId). times ps point) here ∙ times_same (list_at lists place) point)
       by false differs = (let kept = ap (λ (ps : List PointId). times ps point) (elsewhere p differs) in omega (arith, kept))
 
-  pub added_other : (p other : PointId) → point.0 == other.0 ≡ false → times (list_at (added lists place point) p) other ≡ times (list_at lists p) other
+  pub added_other : (p other : PointId) → point.0 == other.0 ≡ false → times (list_at (added_to_list lists place point) p) other ≡ times (list_at lists p) other
   added_other p other apart = by (place.0 == p.0) refl
     where
-      by : (b : Bool) → place.0 == p.0 ≡ b → times (list_at (added lists place point) p) other ≡ times (list_at lists p) other
+      by : (b : Bool) → place.0 == p.0 ≡ b → times (list_at (added_to_list lists place point) p) other ≡ times (list_at lists p) other
       by true same =
-          at_place (λ (q : PointId). times (list_at (added lists place point) q) other ≡ times (list_at lists q) other) p same
+          at_place (λ (q : PointId). times (list_at (added_to_list lists place point) q) other ≡ times (list_at lists q) other) p same
           (ap (λ (ps : List PointId). times ps other) here ∙ times_differs (list_at lists place) point other apart)
       by false differs = ap (λ (ps : List PointId). times ps other) (elsewhere p differs)
 
-  pub added_inside : (n : ℕ) → point.0 < n → (p : PointId) → All (λ (other : PointId). other.0 < n) (list_at lists p) → All (λ (other : PointId). other.0 < n) (list_at (added lists place point) p)
+  pub added_inside : (n : ℕ) → point.0 < n → (p : PointId) → All (λ (other : PointId). other.0 < n) (list_at lists p) → All (λ (other : PointId). other.0 < n) (list_at (added_to_list lists place point) p)
   added_inside n below p before = by (place.0 == p.0) refl
     where
-      by : (b : Bool) → place.0 == p.0 ≡ b → All (λ (other : PointId). other.0 < n) (list_at (added lists place point) p)
+      by : (b : Bool) → place.0 == p.0 ≡ b → All (λ (other : PointId). other.0 < n) (list_at (added_to_list lists place point) p)
       by true same =
           let at : place ≡ p = at_place (λ (q : PointId). place ≡ q) p same refl in
-          subst (λ (q : PointId). All (λ (other : PointId). other.0 < n) (list_at (added lists place point) q)) at
+          subst (λ (q : PointId). All (λ (other : PointId). other.0 < n) (list_at (added_to_list lists place point) q)) at
           (subst (λ (ps : List PointId). All (λ (other : PointId). other.0 < n) ps) (sym here)
           (All-append (λ (other : PointId). other.0 < n) (list_at lists place) (point ∷ []) (subst (λ (q : PointId). All (λ (other : PointId). other.0 < n) (list_at lists q)) (sym at) before)
           (All-cons (λ (other : PointId). other.0 < n) point [] below (All-nil (λ (other : PointId). other.0 < n)))))
@@ -87,7 +87,7 @@ module _ (lists : List (List PointId)) (place point : PointId) (inside : place.0
 -- ---- the items of a point
 module _ {X : Type 0} (place : X → Option PointId) (stands : PointId → X → Bool) (says : (p : PointId) (x : X) → stands p x ≡ option_map_or (λ (at : PointId). at.0 == p.0) (place x) false) (point : PointId) where
   abbrev next_lists : List (List PointId) → Option PointId → List (List PointId)
-  next_lists lists o = option_map_or (λ (at : PointId). added lists at point) o lists
+  next_lists lists o = option_map_or (λ (at : PointId). added_to_list lists at point) o lists
 
   next_length : (lists : List (List PointId)) (o : Option PointId) → length (next_lists lists o) ≡ length lists
   next_length lists None = refl
@@ -141,12 +141,12 @@ module _ {X : Type 0} (place : X → Option PointId) (stands : PointId → X →
 -- ---- item by item
 module _ {X : Type 0} (place : X → Option PointId) (point : PointId) where
   pub gathered_more : (lists : List (List PointId)) (items : List X) (i : ℕ) (d : X) (at : PointId) → i < length items → place (get_or items i d) ≡ Some at
-      → gathered place point lists (take (i + 1) items) ≡ added (gathered place point lists (take i items)) at point
+      → gathered place point lists (take (i + 1) items) ≡ added_to_list (gathered place point lists (take i items)) at point
   gathered_more lists items i d at inside is =
       let before = gathered place point lists (take i items) in
       ap (gathered place point lists) (take_more items i d inside)
-      ∙ (fold-append (λ (now : List (List PointId)) (item : X). option_map_or (λ (p : PointId). added now p point) (place item) now) lists (take i items) (get_or items i d ∷ [])
-      ∙ ap (λ (o : Option PointId). option_map_or (λ (p : PointId). added before p point) o before) is)
+      ∙ (fold-append (λ (now : List (List PointId)) (item : X). option_map_or (λ (p : PointId). added_to_list now p point) (place item) now) lists (take i items) (get_or items i d ∷ [])
+      ∙ ap (λ (o : Option PointId). option_map_or (λ (p : PointId). added_to_list before p point) o before) is)
 
 pub got_inside : (links : List Link) (k : ℕ) (d : Link) → k < length links → slice_get links k ≡ Some (get_or links k d)
 got_inside links k d inside = elim (slice_get_cases links k).1 [
@@ -236,22 +236,22 @@ module _ (setting : Setting) (points i : ℕ) (wakes : WakeLists) (before : AreW
     to_in x among = subst (λ n. IfSome (to_place x) (λ at. at.0 < n)) (sym before.ends_count) (to_inside x among)
 
     abbrev new : WakeLists
-    new = with_point setting.links wakes point its
+    new = with_point_wakes setting.links wakes point its
 
-    fixed_here : (p : PointId) → p.0 < points → times (list_at new.fixes p) point ≡ fixed_by (first_of setting (i + 1)) p (conditions_at (take (i + 1) setting.dispatch) point)
+    fixed_here : (p : PointId) → p.0 < points → times (list_at new.fixes p) point ≡ count_fixed_by (first_of setting (i + 1)) p (conditions_at (take (i + 1) setting.dispatch) point)
     fixed_here p inside =
         let a = gathered_same bound_place is_bound_after bound_says point wakes.fixes its.lower_bounds p bounds_in in
         let b = gathered_same from_place (is_wait_from setting.links) (from_says setting.links) point after_bounds its.waits p from_in in
         let c = before.fixed p inside point in
-        let d : fixed_by setting p (conditions_at (take i setting.dispatch) point) ≡ 0 = ap (fixed_by setting p) none_yet in
-        let e : fixed_by setting p (conditions_at (take (i + 1) setting.dispatch) point) ≡ fixed_by setting p its = ap (fixed_by setting p) its_now in
+        let d : count_fixed_by setting p (conditions_at (take i setting.dispatch) point) ≡ 0 = ap (count_fixed_by setting p) none_yet in
+        let e : count_fixed_by setting p (conditions_at (take (i + 1) setting.dispatch) point) ≡ count_fixed_by setting p its = ap (count_fixed_by setting p) its_now in
         omega (arith, a, b, c, d, e)
 
-    fixed_there : (p other : PointId) → p.0 < points → i == other.0 ≡ false → times (list_at new.fixes p) other ≡ fixed_by (first_of setting (i + 1)) p (conditions_at (take (i + 1) setting.dispatch) other)
+    fixed_there : (p other : PointId) → p.0 < points → i == other.0 ≡ false → times (list_at new.fixes p) other ≡ count_fixed_by (first_of setting (i + 1)) p (conditions_at (take (i + 1) setting.dispatch) other)
     fixed_there p other inside apart =
         gathered_other from_place (is_wait_from setting.links) (from_says setting.links) point after_bounds its.waits p other apart from_in
         ∙ (gathered_other bound_place is_bound_after bound_says point wakes.fixes its.lower_bounds p other apart bounds_in
-        ∙ (before.fixed p inside other ∙ ap (fixed_by setting p) (sym (conditions_before setting.dispatch i other (let differs : other.0 ≢ i = grind (arith, nat_tests) in differs)))))
+        ∙ (before.fixed p inside other ∙ ap (count_fixed_by setting p) (sym (conditions_before setting.dispatch i other (let differs : other.0 ≢ i = grind (arith, nat_tests) in differs)))))
 
     abbrev ended_by : PointId → Conditions → ℕ
     ended_by p c = count_by (is_wait_to setting.links p) c.waits
@@ -284,9 +284,9 @@ module _ (setting : Setting) (points i : ℕ) (wakes : WakeLists) (before : AreW
     }
       where
         fixed_by_case : (p : PointId) → p.0 < points → (other : PointId) (b : Bool) → i == other.0 ≡ b
-            → times (list_at new.fixes p) other ≡ fixed_by (first_of setting (i + 1)) p (conditions_at (take (i + 1) setting.dispatch) other)
+            → times (list_at new.fixes p) other ≡ count_fixed_by (first_of setting (i + 1)) p (conditions_at (take (i + 1) setting.dispatch) other)
         fixed_by_case p inside other true same =
-            at_point (λ (q : PointId). times (list_at new.fixes p) q ≡ fixed_by (first_of setting (i + 1)) p (conditions_at (take (i + 1) setting.dispatch) q)) other same (fixed_here p inside)
+            at_point (λ (q : PointId). times (list_at new.fixes p) q ≡ count_fixed_by (first_of setting (i + 1)) p (conditions_at (take (i + 1) setting.dispatch) q)) other same (fixed_here p inside)
         fixed_by_case p inside other false apart = fixed_there p other inside apart
 
         ended_by_case : (p : PointId) → p.0 < points → (other : PointId) (b : Bool) → i == other.0 ≡ b
@@ -300,7 +300,7 @@ pub no_points : (setting : Setting) (points : ℕ) (wakes : WakeLists) → wakes
 no_points setting points wakes fixes ends = record {
   fixes_count = ap (λ (ls : List (List PointId)). length ls) fixes ∙ length-replicate points [];
   ends_count = ap (λ (ls : List (List PointId)). length ls) ends ∙ length-replicate points [];
-  fixed = λ point inside other. ap (λ (ps : List PointId). times ps other) (empty wakes.fixes fixes point) ∙ sym (ap (fixed_by setting point) (none other));
+  fixed = λ point inside other. ap (λ (ps : List PointId). times ps other) (empty wakes.fixes fixes point) ∙ sym (ap (count_fixed_by setting point) (none other));
   ended = λ point inside other. ap (λ (ps : List PointId). times ps other) (empty wakes.ends ends point)
       ∙ sym (ap (λ (c : Conditions). count_by (is_wait_to setting.links point) c.waits) (none other));
   fixes_inside = λ point. subst (λ (ps : List PointId). All (λ (other : PointId). other.0 < points) ps) (sym (empty wakes.fixes fixes point)) (All-nil (λ (other : PointId). other.0 < points));
@@ -321,12 +321,12 @@ all_points setting points i wakes whole are =
     let same : take i setting.dispatch ≡ setting.dispatch = take_all i setting.dispatch whole in
     subst (λ (dispatch : List Conditions). AreWakesOf (record { links = setting.links; dispatch = dispatch }) points wakes) same are
 
--- ---- whom a point wakes
-none_among : (points : List PointId) (point : PointId) → times points point ≡ 0 → is_among points point ≡ false
+-- ---- which points a point wakes
+none_among : (points : List PointId) (point : PointId) → times points point ≡ 0 → contains_point points point ≡ false
 none_among [] point none = refl
 none_among (p ∷ ps) point none = by (none_among ps point) (p.0 == point.0) refl (count_cons (λ (other : PointId). other.0 == point.0) p ps)
   where
-    by : (times ps point ≡ 0 → is_among ps point ≡ false) → (b : Bool) → p.0 == point.0 ≡ b → times (p ∷ ps) point ≡ cond b 1 0 + times ps point → is_among (p ∷ ps) point ≡ false
+    by : (times ps point ≡ 0 → contains_point ps point ≡ false) → (b : Bool) → p.0 == point.0 ≡ b → times (p ∷ ps) point ≡ cond b 1 0 + times ps point → contains_point (p ∷ ps) point ≡ false
     by rest true is counts = absurd (omega (arith, none, counts))
     by rest false is counts = rw is (rest (omega (arith, none, counts)))
 
@@ -335,13 +335,13 @@ pub woken : (setting : Setting) (points : ℕ) (wakes : WakeLists) → AreWakesO
 woken setting points wakes are point inside = record { fixed = are.fixed point inside; ended = ended }
   where
     ended : (other : PointId) (wait : LinkId × ℤ) (link : Link) → Contains (conditions_at setting.dispatch other).waits wait → slice_get setting.links wait.0.0 ≡ Some link
-        → link.to.0 ≡ point.0 → is_among (list_at wakes.ends point) other ≡ true
-    ended other wait link among declared at = by (is_among (list_at wakes.ends point) other) refl
+        → link.to.0 ≡ point.0 → contains_point (list_at wakes.ends point) other ≡ true
+    ended other wait link among declared at = by (contains_point (list_at wakes.ends point) other) refl
       where
         stands : is_wait_to setting.links point wait ≡ true
         stands = ap (λ (o : Option Link). option_map_or (λ (l : Link). l.to.0 == point.0) o false) declared ∙ (let same : link.to.0 == point.0 ≡ true = grind (arith, nat_tests) in same)
 
-        by : (b : Bool) → is_among (list_at wakes.ends point) other ≡ b → b ≡ true
+        by : (b : Bool) → contains_point (list_at wakes.ends point) other ≡ b → b ≡ true
         by true is = refl
         by false absent =
             let none : count_by (is_wait_to setting.links point) (conditions_at setting.dispatch other).waits ≡ 0 = sym (are.ended point inside other) ∙ is_among_times (list_at wakes.ends point) other absent in

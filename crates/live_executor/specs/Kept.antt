@@ -3,10 +3,10 @@ use Rattle.std.specs.Prelude.{◌≡◌, ℕ, ◌≤◌, ◌+◌, ◌*◌, lengt
 use Rattle.std.specs.Option.{option_map_or}
 use Rattle.net_model.specs.Limits.{most_size}
 use Rattle.net_model.specs.declared.ids.PointId.{PointId}
-use Rattle.execution_model.specs.Feeding.{Execution, taken, after_feed}
-use Rattle.execution_model.specs.declared.feeding.Act.{Act}
-use Rattle.execution_model.specs.declared.feeding.Why.{Why}
-use Rattle.live_executor.specs.Course.{CourseSoFar, StandsAt, left_of}
+use Rattle.execution_model.specs.Feeds.{Execution, taken, after_feed}
+use Rattle.execution_model.specs.declared.feed_answers.Act.{Act}
+use Rattle.execution_model.specs.declared.feed_answers.Why.{Why}
+use Rattle.live_executor.specs.ExecutionStates.{ExecutionSoFar, StandsAt, points_left}
 use Rattle.live_executor.specs.Limits.{AreBefore, end_of_time}
 use Rattle.live_executor.specs.Sound.{KeptNetwork}
 
@@ -14,21 +14,21 @@ use Rattle.live_executor.specs.Sound.{KeptNetwork}
 abbrev pub moment_after : Option ℕ → ℕ
 moment_after last = option_map_or (λ l. l + 1) last 0
 
--- an execution goes on from a moment, between calls: no moment so far is as late, and the time that the points left may take is before the
--- end of time
-pub record GoesOn (network : KeptNetwork) (from : ℕ) (course : CourseSoFar) : Type 0 where
-  pub stands : StandsAt network from course
-  pub before : AreBefore from course.moments
-  pub time_left : from + most_size * left_of course.moments ≤ end_of_time
+-- an execution continues from a moment, between calls: no moment so far is as late, and the time that the points left may take is before the end of time
+pub record ExecutionGoesOn (network : KeptNetwork) (from : ℕ) (state : ExecutionSoFar) : Type 0 where
+  pub stands : StandsAt network from state
+  pub before : AreBefore from state.moments
+  pub time_left : from + most_size * points_left state.moments ≤ end_of_time
 
--- what an executor keeps: a moment for each point, or none, and acts, with places for one of each point; the last moment fed is before the
--- end of time, and the execution goes on where no feed was refused
-pub record IsKeptExecution (network : KeptNetwork) (course : CourseSoFar) (acts : List Act) (places : ℕ) (last : Option ℕ) (refused : Option Why) : Type 0 where
-  pub count : length course.moments ≡ length network.made
-  pub few : length acts ≤ length course.moments
-  pub reserved : length course.moments ≤ places
+-- what an executor keeps: a moment for each point, or none, and acts, with places for one of each point; the last moment fed is before the end of time, and the
+-- execution continues if no feed was refused
+pub record IsKeptExecution (network : KeptNetwork) (state : ExecutionSoFar) (acts : List Act) (places : ℕ) (last : Option ℕ)
+    (refused : Option Why) : Type 0 where
+  pub count : length state.moments ≡ length network.made
+  pub few : length acts ≤ length state.moments
+  pub reserved : length state.moments ≤ places
   pub soon : moment_after last ≤ end_of_time
-  pub goes_on : refused ≡ None → GoesOn network (moment_after last) course
+  pub goes_on : refused ≡ None → ExecutionGoesOn network (moment_after last) state
 
 -- a feed of an execution that is not over: taken, or refused
 abbrev pub IsTaken : Execution → (moment : ℕ) → List PointId → Result (Unit {0}) Why → Execution → Type 0

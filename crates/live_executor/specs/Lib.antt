@@ -1,10 +1,10 @@
 pub mod Limits
 pub mod Due
-pub mod Waking
+pub mod WokenPoints
 pub mod Wakes
-pub mod Awaited
+pub mod ExpectedPoints
 pub mod Sound
 pub mod Trace
-pub mod Course
+pub mod ExecutionStates
 pub mod Kept
-pub mod Taking
+pub mod FeedParts

@@ -1,14 +1,14 @@
 -- What was done since some moments, so that it can be taken back.
 use Rattle.std.specs.Prelude.{◌≡◌, true, false, List, length, None}
-use Rattle.closure_model.specs.Orders.{is_among}
+use Rattle.closure_model.specs.Orders.{contains_point}
 use Rattle.net_model.specs.declared.ids.PointId.{PointId}
 use Rattle.net_model.specs.Moments.{Moments, moment_of}
 
 -- the points that have come since some moments: they had none then, and every other point has what it had
 pub record HaveComeSince (before : Moments) (came : List PointId) (now : Moments) : Type 0 where
   pub long : length before ≡ length now
-  pub new : (point : PointId) → is_among came point ≡ true → moment_of before point ≡ None
-  pub same : (point : PointId) → is_among came point ≡ false → moment_of now point ≡ moment_of before point
+  pub new : (point : PointId) → contains_point came point ≡ true → moment_of before point ≡ None
+  pub same : (point : PointId) → contains_point came point ≡ false → moment_of now point ≡ moment_of before point
 
 -- whatever these points have come since, those have come since it now
 abbrev pub KeepsTrace : (came : List PointId) → (moments : Moments) → (came_now : List PointId) → (now : Moments) → Type 0

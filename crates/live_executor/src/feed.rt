@@ -1,17 +1,18 @@
 //! A feed, which is taken back if it is refused.
 
 ghost use Rattle.std.specs.Prelude.{◌≤◌};
-ghost use Rattle.live_executor.specs.Course.{StandsAt};
-ghost use Rattle.live_executor.specs.Kept.{GoesOn};
-ghost use Rattle.live_executor.specs.Taking.{MayBeListed, Settles, Advances, Feeds};
+ghost use Rattle.live_executor.specs.ExecutionStates.{StandsAt};
+ghost use Rattle.live_executor.specs.Kept.{ExecutionGoesOn};
+ghost use Rattle.live_executor.specs.FeedParts.{MayBeListed, Settles, Advances, Feeds};
 
-use crate::course::Course;
-use crate::dispatched::Dispatched;
+use crate::dispatched_network::Dispatched;
+use crate::execution_state::ExecutionState;
 use execution_model::Why;
 use net_model::PointId;
 
-impl Course {
-    /// Takes the completions of a moment, or gives the first refusal; then the lowest point that should have completed.
+impl ExecutionState {
+    /// Takes the completions of a moment, or gives the first refusal; then the lowest point that
+    /// should have completed.
     fn settle(
         &mut self,
         dispatched: &Dispatched,
@@ -29,8 +30,8 @@ impl Course {
         }
     }
 
-    /// Tries a feed: lets time run to the moment before, takes the completions of the moment, and makes its acts; or gives the first
-    /// refusal, and the moments are what they were.
+    /// Tries a feed: lets time run to the moment before, takes the completions of the moment, and
+    /// makes its acts; or gives the first refusal, and the moments are what they were.
     pub(crate) fn try_feed(
         &mut self,
         dispatched: &Dispatched,
@@ -38,7 +39,7 @@ impl Course {
         moment: u64,
         listed: &[PointId],
     ) -> Result<(), Why>
-        requires goes_on { GoesOn dispatched.now from self.old }
+        requires goes_on { ExecutionGoesOn dispatched.now from self.old }
         requires listed { MayBeListed dispatched.now moment listed.now }
         requires range { from ≤ moment }
         ensures { Feeds dispatched.now from moment listed.now result self.old self.new }
@@ -50,7 +51,7 @@ impl Course {
         Ok(())
     }
 
-    /// The same, where what was done isn't taken back.
+    /// Tries a feed as `try_feed` does, but takes nothing back.
     fn advance(
         &mut self,
         dispatched: &Dispatched,

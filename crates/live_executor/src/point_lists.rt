@@ -1,7 +1,7 @@
 //! A list of points for each point.
 
 ghost use Rattle.std.specs.Prelude.{◌≡◌, ◌<◌, [], length, replicate, IfOk, OnOk};
-ghost use Rattle.live_executor.specs.Wakes.{list_at, added};
+ghost use Rattle.live_executor.specs.Wakes.{list_at, added_to_list};
 
 use net_model::PointId;
 use std::alloc::{AllocError, Global};
@@ -23,7 +23,7 @@ impl Model for PointLists {
 }
 
 impl PointLists {
-    /// Empty lists for so many points. `AllocError` comes only for want of memory.
+    /// Empty lists for so many points. `AllocError` comes only if memory is refused.
     pub(crate) fn new(alloc: Global, points: u32) -> Result<PointLists, AllocError>
         ensures { IfOk result (λ lists. lists ≡ replicate points []) }
     {
@@ -34,10 +34,11 @@ impl PointLists {
         Ok(PointLists { lists })
     }
 
-    /// Puts a point at the end of the list of another. `AllocError` comes only for want of memory.
+    /// Puts a point at the end of the list of another. `AllocError` comes only if memory is
+    /// refused.
     pub(crate) fn add(&mut self, place: PointId, point: PointId) -> Result<(), AllocError>
         requires { place.0 < length self.old }
-        ensures { OnOk result (self.new ≡ added self.old place point) }
+        ensures { OnOk result (self.new ≡ added_to_list self.old place point) }
     {
         self.lists[place.0 as usize].push(point)?;
         Ok(())

@@ -1,10 +1,11 @@
-//! Whom a point wakes when it gets its moment.
+//! Which points a point wakes when it gets its moment.
 
 ghost use Rattle.std.specs.Prelude.{◌≡◌, ◌<◌, ◌≤◌, length, take, IfOk, OnOk};
 ghost use Rattle.std.specs.List.{All};
 ghost use Rattle.dispatch_net.specs.Dispatchable.{conditions_at};
-ghost use Rattle.live_executor.specs.Sound.{IsLinkOf, IsLowerBound, IsWait, IsSound};
-ghost use Rattle.live_executor.specs.Wakes.{AreWakesOf, list_at, gathered, bound_place, wait_place, with_point};
+ghost use Rattle.live_executor.specs.Sound.{IsLinkWithin, IsLowerBound, IsWait, IsSoundSetting};
+ghost use Rattle.live_executor.specs.Wakes.{AreWakesOf, list_at, gathered, bound_place, wait_place};
+ghost use Rattle.live_executor.specs.Wakes.{with_point_wakes};
 
 use crate::point_lists::PointLists;
 use dispatch_net::Dispatch;
@@ -12,8 +13,8 @@ use net_model::{Link, LinkId, PointId, Weight};
 use std::alloc::{AllocError, Global};
 use std::marker::Model;
 
-/// For each point the points whose lower bounds and waits it fixes, each as often as it does, and those with a wait for the link that
-/// ends in it.
+/// For each point the points whose lower bounds and waits it fixes, each as often as it does, and
+/// those with a wait for the link that ends in it.
 #[derive(Drop)]
 pub(crate) struct Wakes {
     fixes: PointLists,
@@ -29,11 +30,14 @@ impl Model for Wakes {
 }
 
 impl Wakes {
-    /// Those of a dispatchable network with so many points, by what is kept of it. `AllocError` comes only for want of memory.
+    /// The wakes of a dispatchable network with so many points, by what is kept of it. `AllocError`
+    /// comes only if memory is refused.
     pub(crate) fn of(alloc: Global, dispatch: &Dispatch, points: u32) -> Result<Wakes, AllocError>
-        requires sound { IsSound (record { links = dispatch.now.links; dispatch = dispatch.now.kept }) }
+        requires sound { IsSoundSetting
+            (record { links = dispatch.now.links; dispatch = dispatch.now.kept }) }
         requires count { points ≡ length dispatch.now.kept }
-        ensures { IfOk result (AreWakesOf (record { links = dispatch.now.links; dispatch = dispatch.now.kept }) points) }
+        ensures { IfOk result (AreWakesOf
+            (record { links = dispatch.now.links; dispatch = dispatch.now.kept }) points) }
     {
         let fixes = PointLists::new(alloc, points)?;
         let ends = PointLists::new(alloc, points)?;
@@ -47,11 +51,14 @@ impl Wakes {
     /// Adds a point by its lower bounds and waits.
     fn add(&mut self, dispatch: &Dispatch, point: PointId) -> Result<(), AllocError>
         requires point { point.0 < length dispatch.now.kept }
-        requires bounds { All (IsLowerBound (length self.old.fixes)) (conditions_at dispatch.now.kept point).lower_bounds }
-        requires waits { All (IsWait (length dispatch.now.links)) (conditions_at dispatch.now.kept point).waits }
-        requires links { All (IsLinkOf (length self.old.fixes)) dispatch.now.links }
+        requires bounds { All (IsLowerBound (length self.old.fixes))
+            (conditions_at dispatch.now.kept point).lower_bounds }
+        requires waits { All (IsWait (length dispatch.now.links))
+            (conditions_at dispatch.now.kept point).waits }
+        requires links { All (IsLinkWithin (length self.old.fixes)) dispatch.now.links }
         requires ends { length self.old.ends ≡ length self.old.fixes }
-        ensures { OnOk result (self.new ≡ with_point dispatch.now.links self.old point (conditions_at dispatch.now.kept point)) }
+        ensures { OnOk result (self.new ≡ with_point_wakes dispatch.now.links self.old point
+            (conditions_at dispatch.now.kept point)) }
     {
         add_bounds(&mut self.fixes, point, dispatch.lower_bounds(point))?;
         add_activations(
@@ -108,9 +115,10 @@ fn add_activations(
     links: &[Link],
     waits: &[(LinkId, Weight)],
 ) -> Result<(), AllocError>
-    requires links { All (IsLinkOf (length lists.old)) links.now }
+    requires links { All (IsLinkWithin (length lists.old)) links.now }
     requires waits { All (IsWait (length links.now)) waits.now }
-    ensures { OnOk result (lists.new ≡ gathered (wait_place (λ link. link.from) links.now) point lists.old waits.now) }
+    ensures { OnOk result (lists.new ≡ gathered (wait_place (λ link. link.from) links.now) point
+        lists.old waits.now) }
 {
     for (link, _) in waits {
         lists.add(links[link.0 as usize].from, point)?;
@@ -125,9 +133,10 @@ fn add_contingent(
     links: &[Link],
     waits: &[(LinkId, Weight)],
 ) -> Result<(), AllocError>
-    requires links { All (IsLinkOf (length lists.old)) links.now }
+    requires links { All (IsLinkWithin (length lists.old)) links.now }
     requires waits { All (IsWait (length links.now)) waits.now }
-    ensures { OnOk result (lists.new ≡ gathered (wait_place (λ link. link.to) links.now) point lists.old waits.now) }
+    ensures { OnOk result (lists.new ≡ gathered (wait_place (λ link. link.to) links.now) point
+        lists.old waits.now) }
 {
     for (link, _) in waits {
         lists.add(links[link.0 as usize].to, point)?;

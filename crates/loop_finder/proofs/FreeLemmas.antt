@@ -1,5 +1,6 @@
 -- Which points are free by the lists of where negative ordinary edges go.
-use Rattle.std.proofs.Common.{◌≡◌, ◌≢◌, ℕ, zero, suc, ◌+◌, ◌==◌, ◌<◌, ◌≤◌, ltb, Bool, true, false, cond, ◌&&◌, not, List, [], ◌∷◌, ◌++◌, map, filter, length, get_or, set, get_or-set_same, get_or-set_other, length-set, Option, Some, None, refl, ap, sym, subst, ◌∙◌, arith}
+use Rattle.std.proofs.Common.{◌≡◌, ◌≢◌, ℕ, zero, suc, ◌+◌, ◌==◌, ◌<◌, ◌≤◌, ltb, Bool, true, false, cond, ◌&&◌, not, List, [], ◌∷◌, ◌++◌, map, filter, length, get_or, set, get_or-set_same, get_or-set_other, length-set, Option, Some, None}
+use Rattle.std.proofs.Common.{refl, ap, sym, subst, ◌∙◌, arith}
 use Rattle.std.specs.Prelude.{is_none, replicate}
 use Rattle.std.specs.Option.{option_to_list}
 use Rattle.std.specs.List.{All, Contains, find, range_with_len}
@@ -8,12 +9,12 @@ use Rattle.std.proofs.lemmas.Bool.Decides.{nat_tests}
 use Rattle.std.proofs.lemmas.List.Elements.{All-contains, Contains-get_or}
 use Rattle.net_model.specs.declared.ids.PointId.{PointId}
 use Rattle.closure_model.specs.Keys.{all_points}
-use Rattle.closure_model.specs.Orders.{goes, is_among, next_on, is_free, place_next, placed_after}
+use Rattle.closure_model.specs.Orders.{goes, contains_point, next_on, is_free, place_next, placed_after}
 use Rattle.closure_model.specs.Tables.{Graph}
 use Rattle.closure_model.proofs.Lists.{Contains-head, Contains-tail, Contains-filter_from}
 use Rattle.closure_model.proofs.OrderLemmas.{find_some, in_range, among_more}
 use Rattle.loop_finder.specs.Marks.{IsHead, AreHeads}
-use Rattle.loop_finder.specs.Onward.{point, targets_of, AreOnward, next_in, is_free_in, AreWithin}
+use Rattle.loop_finder.specs.NegativeSuccessors.{point, targets_of, AreNegativeSuccessors, next_in, is_free_in, AreTargetsWithin}
 
 -- ---- the lists and the table
 find_filter : (p q : PointId → Bool) (xs : List PointId) → find (λ x. p x && q x) xs ≡ find q (filter p xs)
@@ -28,20 +29,20 @@ find_alike : (p q : PointId → Bool) (xs : List PointId) → ((x : PointId) →
 find_alike p q [] alike = refl
 find_alike p q (x ∷ xs) alike = λ i. cond (alike x (Contains-head x xs) i) (Some x) (find_alike p q xs (λ y inside. alike y (Contains-tail x xs y inside)) i)
 
-module _ (graph : Graph) (lists : List (List PointId)) (are : AreOnward graph lists) (placed : List PointId) where
+module _ (graph : Graph) (lists : List (List PointId)) (are : AreNegativeSuccessors graph lists) (placed : List PointId) where
   pub next_is : (from : PointId) → from.0 < length lists → next_in lists placed from ≡ next_on graph placed from
-  next_is from inside = ap (find (λ to. not (is_among placed to))) (are.each from.0 inside) ∙ sym (find_filter (goes graph from) (λ to. not (is_among placed to)) (all_points graph.shape))
+  next_is from inside = ap (find (λ to. not (contains_point placed to))) (are.each from.0 inside) ∙ sym (find_filter (goes graph from) (λ to. not (contains_point placed to)) (all_points graph.shape))
 
   free_is : (from : PointId) → from.0 < length lists → is_free_in lists placed from ≡ is_free graph placed from
-  free_is from inside = ap (λ o. not (is_among placed from) && is_none o) (next_is from inside)
+  free_is from inside = ap (λ o. not (contains_point placed from) && is_none o) (next_is from inside)
 
   pub lowest_is : find (is_free_in lists placed) (map point (range_with_len 0 (length lists))) ≡ find (is_free graph placed) (all_points graph.shape)
   lowest_is =
       find_alike (is_free_in lists placed) (is_free graph placed) (map point (range_with_len 0 (length lists))) (λ from inside. free_is from (in_range (length lists) from inside))
       ∙ ap (λ n. find (is_free graph placed) (map point (range_with_len 0 n))) are.count
 
-pub onward_within : (graph : Graph) (lists : List (List PointId)) → AreOnward graph lists → (points : ℕ) → points ≡ graph.shape.points → AreWithin lists points
-onward_within graph lists are points same from = by lists from are.each
+pub successors_within : (graph : Graph) (lists : List (List PointId)) → AreNegativeSuccessors graph lists → (points : ℕ) → points ≡ graph.shape.points → AreTargetsWithin lists points
+successors_within graph lists are points same from = by lists from are.each
   where
     none_past : (ls : List (List PointId)) (k : ℕ) → length ls ≤ k → get_or ls k [] ≡ []
     none_past [] k past = refl
@@ -61,7 +62,7 @@ onward_within graph lists are points same from = by lists from are.each
             (all_of (filter (goes graph (point k)) (all_points graph.shape)) (λ p there. subst (λ n. p.0 < n) (sym same) (in_range graph.shape.points p (Contains-filter_from (goes graph (point k)) (all_points graph.shape) p there))))
         at false past = let over : length ls ≤ k = grind (arith, nat_tests) in subst (All (λ (to : PointId). to.0 < points)) (sym (none_past ls k over)) (λ j d inside. absurd (omega arith))
 
-pub placed_more : (graph : Graph) (lists : List (List PointId)) (points k : ℕ) → length lists ≡ points → AreOnward graph lists → (before after : List PointId) → before ≡ placed_after graph k
+pub placed_more : (graph : Graph) (lists : List (List PointId)) (points k : ℕ) → length lists ≡ points → AreNegativeSuccessors graph lists → (before after : List PointId) → before ≡ placed_after graph k
     → after ≡ before ++ option_to_list (find (is_free_in lists before) (map point (range_with_len 0 points))) → after ≡ placed_after graph (k + 1)
 placed_more graph lists points k count are before after held placed =
     placed
@@ -74,28 +75,31 @@ placed_more graph lists points k count are before after held placed =
 pub head_none : (placed targets : List PointId) → IsHead placed targets 0
 head_none placed targets = record { inside = omega arith; placed_before = λ k d less. absurd (omega arith) }
 
--- where all points of a list are placed, none is found that is not
-pub none_open : (placed targets : List PointId) → IsHead placed targets (length targets) → find (λ to. not (is_among placed to)) targets ≡ None
+-- if all points of a list are placed, none is found that is not
+pub none_open : (placed targets : List PointId) → IsHead placed targets (length targets) → find (λ to. not (contains_point placed to)) targets ≡ None
 none_open placed targets head = by targets (λ k d inside. head.placed_before k d inside)
   where
-    by : (ts : List PointId) → ((k : ℕ) (d : PointId) → k < length ts → is_among placed (get_or ts k d) ≡ true) → find (λ to. not (is_among placed to)) ts ≡ None
+    by : (ts : List PointId) → ((k : ℕ) (d : PointId) → k < length ts → contains_point placed (get_or ts k d) ≡ true) → find (λ to. not (contains_point placed to)) ts ≡ None
     by [] all = refl
-    by (t ∷ ts) all = ap (λ b. cond (not b) (Some t) (find (λ to. not (is_among placed to)) ts)) (all 0 t (omega arith)) ∙ by ts (λ k d inside. all (suc k) d (omega arith))
+    by (t ∷ ts) all = ap (λ b. cond (not b) (Some t) (find (λ to. not (contains_point placed to)) ts)) (all 0 t (omega arith)) ∙ by ts (λ k d inside. all (suc k) d (omega arith))
 
 -- the first point that is not placed is found
-pub first_open_found : (placed targets : List PointId) (k : ℕ) (d : PointId) → IsHead placed targets k → k < length targets → is_among placed (get_or targets k d) ≡ false → find (λ to. not (is_among placed to)) targets ≡ Some (get_or targets k d)
+pub first_open_found : (placed targets : List PointId) (k : ℕ) (d : PointId) → IsHead placed targets k → k < length targets → contains_point placed (get_or targets k d) ≡ false
+    → find (λ to. not (contains_point placed to)) targets ≡ Some (get_or targets k d)
 first_open_found placed targets k d head inside out = by targets k inside out head.placed_before
   where
-    by : (ts : List PointId) (k : ℕ) → k < length ts → is_among placed (get_or ts k d) ≡ false → ((j : ℕ) (e : PointId) → j < k → is_among placed (get_or ts j e) ≡ true) → find (λ to. not (is_among placed to)) ts ≡ Some (get_or ts k d)
+    by : (ts : List PointId) (k : ℕ) → k < length ts → contains_point placed (get_or ts k d) ≡ false → ((j : ℕ) (e : PointId) → j < k → contains_point placed (get_or ts j e) ≡ true)
+        → find (λ to. not (contains_point placed to)) ts ≡ Some (get_or ts k d)
     by [] k inside out before = absurd (omega arith)
-    by (t ∷ ts) zero inside out before = ap (λ b. cond (not b) (Some t) (find (λ to. not (is_among placed to)) ts)) out
-    by (t ∷ ts) (suc k) inside out before = ap (λ b. cond (not b) (Some t) (find (λ to. not (is_among placed to)) ts)) (before 0 t (omega arith)) ∙ by ts k (omega arith) out (λ j e less. before (suc j) e (omega arith))
+    by (t ∷ ts) zero inside out before = ap (λ b. cond (not b) (Some t) (find (λ to. not (contains_point placed to)) ts)) out
+    by (t ∷ ts) (suc k) inside out before = ap (λ b. cond (not b) (Some t) (find (λ to. not (contains_point placed to)) ts)) (before 0 t (omega arith)) ∙ by ts k (omega arith) out (λ j e less. before (suc j) e (omega arith))
 
-pub free_by_head : (placed targets : List PointId) (head : ℕ) (b : Bool) → IsHead placed targets head → (head < length targets → (d : PointId) → is_among placed (get_or targets head d) ≡ false) → (among : Bool) → among ≡ false → b ≡ (head == length targets)
-    → b ≡ (not among && is_none (find (λ to. not (is_among placed to)) targets))
+pub free_by_head : (placed targets : List PointId) (head : ℕ) (b : Bool) → IsHead placed targets head → (head < length targets → (d : PointId) → contains_point placed (get_or targets head d) ≡ false) → (among : Bool) → among ≡ false
+    → b ≡ (head == length targets)
+    → b ≡ (not among && is_none (find (λ to. not (contains_point placed to)) targets))
 free_by_head placed targets head b at opens among out is = by (head == length targets) refl
   where
-    by : (c : Bool) → head == length targets ≡ c → b ≡ (not among && is_none (find (λ to. not (is_among placed to)) targets))
+    by : (c : Bool) → head == length targets ≡ c → b ≡ (not among && is_none (find (λ to. not (contains_point placed to)) targets))
     by true end =
         let same : head ≡ length targets = eqb-true head (length targets) end in
         is ∙ end ∙ sym (λ i. not (out i) && is_none (none_open placed targets (subst (IsHead placed targets) same at) i))
@@ -105,7 +109,8 @@ free_by_head placed targets head b at opens among out is = by (head == length ta
 
 -- ---- the heads of all lists
 pub heads_none : (lists : List (List PointId)) (placed : List PointId) (points : ℕ) (heads : List ℕ) → heads ≡ replicate {A = ℕ} points 0 → AreHeads lists placed heads
-heads_none lists placed points heads are from inside = subst (λ hs. IsHead placed (targets_of lists (point from)) (get_or hs from 0)) (sym are) (subst (IsHead placed (targets_of lists (point from))) (sym (all_zero points from)) (head_none placed (targets_of lists (point from))))
+heads_none lists placed points heads are from inside = subst (λ hs. IsHead placed (targets_of lists (point from)) (get_or hs from 0)) (sym are)
+    (subst (IsHead placed (targets_of lists (point from))) (sym (all_zero points from)) (head_none placed (targets_of lists (point from))))
   where
     all_zero : (n k : ℕ) → get_or (replicate {A = ℕ} n 0) k 0 ≡ 0
     all_zero zero k = refl
@@ -115,9 +120,10 @@ heads_none lists placed points heads are from inside = subst (λ hs. IsHead plac
 pub heads_kept : (lists : List (List PointId)) (placed after : List PointId) (q : PointId) (heads : List ℕ) → after ≡ placed ++ q ∷ [] → AreHeads lists placed heads → AreHeads lists after heads
 heads_kept lists placed after q heads more are from inside =
     let head = are from inside in
-    record { inside = head.inside; placed_before = λ k d less. ap (λ ps. is_among ps (get_or (targets_of lists (point from)) k d)) more ∙ among_more placed q (get_or (targets_of lists (point from)) k d) (head.placed_before k d less) }
+    record { inside = head.inside; placed_before = λ k d less. ap (λ ps. contains_point ps (get_or (targets_of lists (point from)) k d)) more ∙ among_more placed q (get_or (targets_of lists (point from)) k d) (head.placed_before k d less) }
 
-pub heads_set : (lists : List (List PointId)) (placed : List PointId) (heads : List ℕ) (k head : ℕ) → AreHeads lists placed heads → k < length heads → IsHead placed (targets_of lists (point k)) head → AreHeads lists placed (set heads k head)
+pub heads_set : (lists : List (List PointId)) (placed : List PointId) (heads : List ℕ) (k head : ℕ) → AreHeads lists placed heads → k < length heads → IsHead placed (targets_of lists (point k)) head
+    → AreHeads lists placed (set heads k head)
 heads_set lists placed heads k head are within at from inside = by (from == k) refl
   where
     by : (b : Bool) → from == k ≡ b → IsHead placed (targets_of lists (point from)) (get_or (set heads k head) from 0)
@@ -139,13 +145,15 @@ read_targets lists from targets read inside is at = is ∙ at ∙ same lists fro
     same (l ∷ ls) zero less = refl
     same (l ∷ ls) (suc k) less = same ls k (omega arith)
 
-pub read_within : (lists : List (List PointId)) (points marks from : ℕ) (targets : List PointId) → AreWithin lists points → marks ≡ points → targets ≡ targets_of lists (point from) → All (λ to. to.0 < marks) targets
+pub read_within : (lists : List (List PointId)) (points marks from : ℕ) (targets : List PointId) → AreTargetsWithin lists points → marks ≡ points → targets ≡ targets_of lists (point from) → All (λ to. to.0 < marks) targets
 read_within lists points marks from targets within same are = subst (λ n. All (λ (to : PointId). to.0 < n) targets) (sym same) (subst (All (λ (to : PointId). to.0 < points)) (sym are) (within from))
 
-pub next_read : (graph : Graph) (lists : List (List PointId)) → AreOnward graph lists → (placed : List PointId) (from : PointId) (targets : List PointId) (next : Option PointId) → from.0 < length lists → targets ≡ targets_of lists from
-    → next ≡ find (λ to. not (is_among placed to)) targets → next_on graph placed from ≡ next
-next_read graph lists are placed from targets next inside read is = sym (next_is graph lists are placed from inside) ∙ ap (find (λ to. not (is_among placed to))) (sym read) ∙ sym is
+pub next_read : (graph : Graph) (lists : List (List PointId)) → AreNegativeSuccessors graph lists → (placed : List PointId) (from : PointId) (targets : List PointId) (next : Option PointId) → from.0 < length lists
+    → targets ≡ targets_of lists from
+    → next ≡ find (λ to. not (contains_point placed to)) targets → next_on graph placed from ≡ next
+next_read graph lists are placed from targets next inside read is = sym (next_is graph lists are placed from inside) ∙ ap (find (λ to. not (contains_point placed to))) (sym read) ∙ sym is
 
-pub found_within : (lists : List (List PointId)) (points : ℕ) (placed : List PointId) (from : ℕ) (targets : List PointId) → AreWithin lists points → targets ≡ targets_of lists (point from) → (next : PointId) → Some next ≡ find (λ to. not (is_among placed to)) targets → next.0 < points
+pub found_within : (lists : List (List PointId)) (points : ℕ) (placed : List PointId) (from : ℕ) (targets : List PointId) → AreTargetsWithin lists points → targets ≡ targets_of lists (point from) → (next : PointId)
+    → Some next ≡ find (λ to. not (contains_point placed to)) targets → next.0 < points
 found_within lists points placed from targets within are next is =
-    All-contains (λ (to : PointId). to.0 < points) targets next (subst (All (λ (to : PointId). to.0 < points)) (sym are) (within from)) (find_some (λ to. not (is_among placed to)) targets next (sym is)).inside
+    All-contains (λ (to : PointId). to.0 < points) targets next (subst (All (λ (to : PointId). to.0 < points)) (sym are) (within from)) (find_some (λ to. not (contains_point placed to)) targets next (sym is)).inside

@@ -1,4 +1,4 @@
 pub mod FoundLemmas
-mod OnwardLemmas
+mod SuccessorLemmas
 mod FreeLemmas
 mod KeptLemmas

@@ -1,4 +1,4 @@
-pub mod Found
-pub mod Onward
+pub mod OrderOrCycle
+pub mod NegativeSuccessors
 pub mod Marks
-pub mod Kept
+pub mod KeptOrders

@@ -1,8 +1,8 @@
 //! What holds of orders that are kept, as the contract of a function with an empty body.
 
-ghost use Rattle.loop_finder.specs.Kept.{OrdersAreKept};
+ghost use Rattle.loop_finder.specs.KeptOrders.{OrdersAreKept};
 
-/// An order of a table stays one while every edge that falls goes along it.
-pub fn orders_are_kept()
+/// An order of a table stays one while every edge that improves goes along it.
+pub fn law_orders_are_kept()
     ensures { OrdersAreKept }
 {}

@@ -1,13 +1,14 @@
-//! An order of the points of a table, or a cycle of negative ordinary edges; and an order that is kept while edges fall.
+//! An order of the points of a table, or a cycle of negative ordinary edges; and an order that is
+//! kept while edges improve.
 #![tactic(auto)]
 
-mod found;
-mod kept;
+mod kept_order;
 mod laws;
-mod onward;
-mod placing;
+mod order_or_cycle;
+mod placement;
+mod successors;
 
-pub use found::Found;
-pub use kept::KeptOrder;
-pub use laws::orders_are_kept;
-pub use placing::order;
+pub use kept_order::KeptOrder;
+pub use laws::law_orders_are_kept;
+pub use order_or_cycle::Found;
+pub use placement::order;

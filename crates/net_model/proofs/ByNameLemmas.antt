@@ -1,5 +1,6 @@
 -- What an accepted edit of a sound network changes, by names.
-use Rattle.std.proofs.Common.{◌≡◌, ◌≢◌, ℕ, ℤ, zero, suc, ◌+◌, ◌-◌, ◌<◌, ◌==◌, ◌||◌, Bool, true, false, not, cond, if◌then◌else◌, List, [], ◌∷◌, ◌++◌, length, map, filter, get_or, set, Option, Some, None, position, is_some, nat_le, slice_get, pos, int_lt, Result, Ok, Err, IfOk, refl, sym, ap, subst, ◌∙◌, ⊎_elim, arith}
+use Rattle.std.proofs.Common.{◌≡◌, ◌≢◌, ℕ, ℤ, zero, suc, ◌+◌, ◌-◌, ◌<◌, ◌==◌, ◌||◌, Bool, true, false, not, cond, if◌then◌else◌, List, [], ◌∷◌, ◌++◌, length, map, filter, get_or, set, Option, Some, None, position, is_some, nat_le}
+use Rattle.std.proofs.Common.{slice_get, pos, int_lt, Result, Ok, Err, IfOk, refl, sym, ap, subst, ◌∙◌, ⊎_elim, arith}
 use Rattle.std.specs.List.{All, AllPairs, remove}
 use Rattle.std.specs.Str.{bytes_eq}
 use Rattle.std.proofs.lemmas.Bool.Decides.{nat_tests}
@@ -11,9 +12,9 @@ use Rattle.std.proofs.lemmas.Slice.Eq.{bytes_eq-Decides}
 use Rattle.std.proofs.lemmas.Bool.{cases_lt}
 use Rattle.std.proofs.lemmas.Option.{get_or_from_slice_get}
 use Rattle.std.specs.Option.{option_map, option_and_then}
-use Rattle.net_model.specs.Building.{◌>>=◌, refuse_if, named, with_point, with_bound, with_link}
+use Rattle.net_model.specs.BuiltNetwork.{◌>>=◌, refuse_if, named, with_point, with_bound, with_link}
 use Rattle.net_model.specs.EditLaws.{by_names, effect, is_bound_named, is_link_to, part_with_most, part_with_interval, EditsChangeByNames}
-use Rattle.net_model.specs.Editing.{edited, unused, user_of, without_point, with_number, with_interval, closed_up, closed_up_bounds, closed_up_links}
+use Rattle.net_model.specs.EditedNetwork.{edited, unused, user_of, without_point, with_number, with_interval, closed_up, closed_up_bounds, closed_up_links}
 use Rattle.net_model.specs.Limits.{most_points, most_bounds, most_links, within_limit}
 use Rattle.net_model.specs.Network.{Plan, IsPlan, point_named, bound_named, activation, link_named}
 use Rattle.net_model.specs.NetworkParts.{point_name, bound_part, link_part}
@@ -30,9 +31,9 @@ use Rattle.net_model.specs.declared.part.Bound.{Bound}
 use Rattle.net_model.specs.declared.part.Link.{Link}
 use Rattle.net_model.specs.declared.part.Part.TheVariants as part
 use Rattle.net_model.specs.declared.part.Which.TheVariants.{Points, Links, Bounds, Number}
-use Rattle.net_model.proofs.EditKeeping.{kept_added, if_known, if_unused, if_passed}
+use Rattle.net_model.proofs.EditSoundness.{kept_added, if_known, if_unused, if_passed}
 use Rattle.net_model.proofs.EditLemmas.{point_within, number_after, no_bound, no_link}
-use Rattle.net_model.proofs.FillingLemmas.{names_apart, pairs_from_map}
+use Rattle.net_model.proofs.NetworkListLemmas.{names_apart, pairs_from_map}
 use Rattle.net_model.proofs.PlanNumbers.{unless_refused}
 use Rattle.net_model.proofs.Positions.{fails_from_None}
 
@@ -141,7 +142,8 @@ filter_mapped test f (x ∷ xs) = by (test (f x)) (filter_mapped test f xs)
     by true rest = ap (λ ys. f x ∷ ys) rest
     by false rest = rest
 
-changed_mapped : {X Y : Type 0} (test : Y → Bool) (change : Y → Y) (f : X → Y) (c : X → X) (xs : List X) → ((x : X) → f (c x) ≡ change (f x)) → map f (map (λ x. if test (f x) then c x else x) xs) ≡ map (λ y. if test y then change y else y) (map f xs)
+changed_mapped : {X Y : Type 0} (test : Y → Bool) (change : Y → Y) (f : X → Y) (c : X → X) (xs : List X) → ((x : X) → f (c x) ≡ change (f x))
+    → map f (map (λ x. if test (f x) then c x else x) xs) ≡ map (λ y. if test y then change y else y) (map f xs)
 changed_mapped test change f c [] same = refl
 changed_mapped test change f c (x ∷ xs) same = λ i. by (test (f x)) i ∷ changed_mapped test change f c xs same i
   where
@@ -246,8 +248,8 @@ unfolding with_point
 point_added net name sound =
     let P : Plan → Type 0 = HasEffect net (edits.AddPoint name) in
     let more : Plan = record net { points = net.points ++ name ∷ [] } in
-    let room : Result Plan PartFault = refuse_if (nat_le most_points (length net.points)) (Limit Points) (Ok more) in
-    unless_refused P (is_some (point_named net name)) DuplicateName room (λ fresh.
+    let spare_capacity : Result Plan PartFault = refuse_if (nat_le most_points (length net.points)) (Limit Points) (Ok more) in
+    unless_refused P (is_some (point_named net name)) DuplicateName spare_capacity (λ not_taken.
     unless_refused P (nat_le most_points (length net.points)) (Limit Points) (Ok more) (λ roomy.
     λ i. record { points = net.points ++ name ∷ []; bounds = more_bounds_same net sound name i; links = more_links_same net sound name i; delay = net.delay }))
 
@@ -257,12 +259,12 @@ bound_added net name from to most sound =
     let P : Plan → Type 0 = HasEffect net (edits.AddBound name from to most) in
     let bound : PointId → PointId → Bound = λ x y. record { name = name; from = x; to = y; most = most } in
     let more : PointId → PointId → Plan = λ x y. record net { bounds = net.bounds ++ bound x y ∷ [] } in
-    let room : PointId → PointId → Result Plan PartFault = λ x y. refuse_if (nat_le most_bounds (length net.bounds)) (Limit Bounds) (Ok (more x y)) in
-    let small : PointId → PointId → Result Plan PartFault = λ x y. refuse_if (not (within_limit most)) (Limit Number) (room x y) in
-    unless_refused P (is_some (bound_named net name)) DuplicateName (named net from >>= (λ x. named net to >>= (λ y. small x y))) (λ fresh.
+    let spare_capacity : PointId → PointId → Result Plan PartFault = λ x y. refuse_if (nat_le most_bounds (length net.bounds)) (Limit Bounds) (Ok (more x y)) in
+    let small : PointId → PointId → Result Plan PartFault = λ x y. refuse_if (not (within_limit most)) (Limit Number) (spare_capacity x y) in
+    unless_refused P (is_some (bound_named net name)) DuplicateName (named net from >>= (λ x. named net to >>= (λ y. small x y))) (λ not_taken.
     if_found P net from (λ x. named net to >>= (λ y. small x y)) (λ x x_is.
     if_found P net to (λ y. small x y) (λ y y_is.
-    unless_refused P (not (within_limit most)) (Limit Number) (room x y) (λ fitting.
+    unless_refused P (not (within_limit most)) (Limit Number) (spare_capacity x y) (λ fitting.
     unless_refused P (nat_le most_bounds (length net.bounds)) (Limit Bounds) (Ok (more x y)) (λ roomy.
     let parts : map (bound_part net.points) (net.bounds ++ bound x y ∷ []) ≡ map (bound_part net.points) net.bounds ++ part.Bound name from to most ∷ [] =
     map-append (bound_part net.points) net.bounds (bound x y ∷ []) ∙ (λ i. map (bound_part net.points) net.bounds ++ part.Bound name (name_is net sound from x x_is i) (name_is net sound to y y_is i) most ∷ []) in
@@ -274,8 +276,8 @@ link_added net from low high to sound =
     let P : Plan → Type 0 = HasEffect net (edits.AddLink from low high to) in
     let link : PointId → PointId → Link = λ a c. record { from = a; low = low; high = high; to = c } in
     let more : PointId → PointId → Plan = λ a c. record net { links = net.links ++ link a c ∷ [] } in
-    let room : PointId → PointId → Result Plan PartFault = λ a c. refuse_if (nat_le most_links (length net.links)) (Limit Links) (Ok (more a c)) in
-    let small : PointId → PointId → Result Plan PartFault = λ a c. refuse_if (not (within_limit high)) (Limit Number) (room a c) in
+    let spare_capacity : PointId → PointId → Result Plan PartFault = λ a c. refuse_if (nat_le most_links (length net.links)) (Limit Links) (Ok (more a c)) in
+    let small : PointId → PointId → Result Plan PartFault = λ a c. refuse_if (not (within_limit high)) (Limit Number) (spare_capacity a c) in
     let interval : PointId → PointId → Result Plan PartFault = λ a c. refuse_if (int_lt low (pos 1) || int_lt high low) BadInterval (small a c) in
     let free : PointId → PointId → Result Plan PartFault = λ a c. refuse_if (is_some (activation net c)) TwoLinksOnPoint (interval a c) in
     let apart : PointId → PointId → Result Plan PartFault = λ a c. refuse_if (a.0 == c.0) LinkToItself (free a c) in
@@ -284,7 +286,7 @@ link_added net from low high to sound =
     unless_refused P (a.0 == c.0) LinkToItself (free a c) (λ other.
     unless_refused P (is_some (activation net c)) TwoLinksOnPoint (interval a c) (λ first.
     unless_refused P (int_lt low (pos 1) || int_lt high low) BadInterval (small a c) (λ good.
-    unless_refused P (not (within_limit high)) (Limit Number) (room a c) (λ fitting.
+    unless_refused P (not (within_limit high)) (Limit Number) (spare_capacity a c) (λ fitting.
     unless_refused P (nat_le most_links (length net.links)) (Limit Links) (Ok (more a c)) (λ roomy.
     let parts : map (link_part net.points) (net.links ++ link a c ∷ []) ≡ map (link_part net.points) net.links ++ part.Link from low high to ∷ [] =
     map-append (link_part net.points) net.links (link a c ∷ []) ∙ (λ i. map (link_part net.points) net.links ++ part.Link (name_is net sound from a a_is i) low high (name_is net sound to c c_is i) ∷ []) in
@@ -339,5 +341,5 @@ has_effect net (edits.SetLink to low high) sound =
     ∙ changed_mapped (is_link_to to) (part_with_interval low high) (link_part net.points) change net.links (λ l. refl) in
     λ i. record { points = net.points; bounds = map (bound_part net.points) net.bounds; links = parts i; delay = net.delay }))))
 
-pub edits_change_by_names : EditsChangeByNames
-edits_change_by_names net edit new sound is = let P : Result Plan EditFault → Type 0 = λ answer. IfOk answer (HasEffect net edit) in subst P is (has_effect net edit sound)
+pub law_edits_change_by_names : EditsChangeByNames
+law_edits_change_by_names net edit new sound is = let P : Result Plan EditFault → Type 0 = λ answer. IfOk answer (HasEffect net edit) in subst P is (has_effect net edit sound)

@@ -1,6 +1,6 @@
 -- A network with the numbers of a plan is sound with any delay; what a list of parts builds has the delay 0.
 use Rattle.std.proofs.Common.{◌≡◌, ◌++◌, ◌∷◌, [], ℕ, ℤ, ◌+◌, ◌≤◌, ◌==◌, ◌||◌, List, Result, Ok, Err, IfOk, get_or, refl, sym, ◌∙◌, is_some, nat_le, int_lt, not, pos, length}
-use Rattle.net_model.specs.Building.{◌>>=◌, refuse_if, named, with_point, with_bound, with_link, with_part, with_parts, built, delayed, at_place}
+use Rattle.net_model.specs.BuiltNetwork.{◌>>=◌, refuse_if, named, with_point, with_bound, with_link, with_part, with_parts, built, delayed, at_place}
 use Rattle.net_model.specs.Limits.{most_points, most_links, most_bounds, most_delay, within_limit}
 use Rattle.net_model.specs.Network.{Plan, IsPlan, HasPlanNumbers, point_named, bound_named, activation, empty}
 use Rattle.net_model.specs.declared.fault.BuildFault.{BuildFault}
@@ -54,29 +54,29 @@ module _ (net : Plan) where
   unfolding with_point
   point_delay name =
       let more : Plan = record net { points = net.points ++ name ∷ [] } in
-      let room : Result Plan PartFault = refuse_if (nat_le most_points (length net.points)) (Limit Points) (Ok more) in
-      unless_refused Keeps (is_some (point_named net name)) DuplicateName room (λ fresh.
+      let spare_capacity : Result Plan PartFault = refuse_if (nat_le most_points (length net.points)) (Limit Points) (Ok more) in
+      unless_refused Keeps (is_some (point_named net name)) DuplicateName spare_capacity (λ not_taken.
       unless_refused Keeps (nat_le most_points (length net.points)) (Limit Points) (Ok more) (λ roomy. refl))
 
   bound_delay : (name from to : List ℕ) (most : ℤ) → IfOk (with_bound net name from to most) Keeps
   unfolding with_bound
   bound_delay name from to most =
       let more : PointId → PointId → Plan = λ x y. record net { bounds = net.bounds ++ record { name = name; from = x; to = y; most = most } ∷ [] } in
-      let room : PointId → PointId → Result Plan PartFault = λ x y. refuse_if (nat_le most_bounds (length net.bounds)) (Limit Bounds) (Ok (more x y)) in
-      let small : PointId → PointId → Result Plan PartFault = λ x y. refuse_if (not (within_limit most)) (Limit Number) (room x y) in
+      let spare_capacity : PointId → PointId → Result Plan PartFault = λ x y. refuse_if (nat_le most_bounds (length net.bounds)) (Limit Bounds) (Ok (more x y)) in
+      let small : PointId → PointId → Result Plan PartFault = λ x y. refuse_if (not (within_limit most)) (Limit Number) (spare_capacity x y) in
       let ends : Result Plan PartFault = named net from >>= (λ x. named net to >>= (λ y. small x y)) in
-      unless_refused Keeps (is_some (bound_named net name)) DuplicateName ends (λ fresh.
+      unless_refused Keeps (is_some (bound_named net name)) DuplicateName ends (λ not_taken.
       whatever_came Keeps (named net from) (λ x. named net to >>= (λ y. small x y)) (λ x.
       whatever_came Keeps (named net to) (λ y. small x y) (λ y.
-      unless_refused Keeps (not (within_limit most)) (Limit Number) (room x y) (λ fitting.
+      unless_refused Keeps (not (within_limit most)) (Limit Number) (spare_capacity x y) (λ fitting.
       unless_refused Keeps (nat_le most_bounds (length net.bounds)) (Limit Bounds) (Ok (more x y)) (λ roomy. refl)))))
 
   link_delay : (from : List ℕ) (low high : ℤ) (to : List ℕ) → IfOk (with_link net from low high to) Keeps
   unfolding with_link
   link_delay from low high to =
       let more : PointId → PointId → Plan = λ a c. record net { links = net.links ++ record { from = a; low = low; high = high; to = c } ∷ [] } in
-      let room : PointId → PointId → Result Plan PartFault = λ a c. refuse_if (nat_le most_links (length net.links)) (Limit Links) (Ok (more a c)) in
-      let small : PointId → PointId → Result Plan PartFault = λ a c. refuse_if (not (within_limit high)) (Limit Number) (room a c) in
+      let spare_capacity : PointId → PointId → Result Plan PartFault = λ a c. refuse_if (nat_le most_links (length net.links)) (Limit Links) (Ok (more a c)) in
+      let small : PointId → PointId → Result Plan PartFault = λ a c. refuse_if (not (within_limit high)) (Limit Number) (spare_capacity a c) in
       let interval : PointId → PointId → Result Plan PartFault = λ a c. refuse_if (int_lt low (pos 1) || int_lt high low) BadInterval (small a c) in
       let free : PointId → PointId → Result Plan PartFault = λ a c. refuse_if (is_some (activation net c)) TwoLinksOnPoint (interval a c) in
       let apart : PointId → PointId → Result Plan PartFault = λ a c. refuse_if (a.0 == c.0) LinkToItself (free a c) in
@@ -85,7 +85,7 @@ module _ (net : Plan) where
       unless_refused Keeps (a.0 == c.0) LinkToItself (free a c) (λ other.
       unless_refused Keeps (is_some (activation net c)) TwoLinksOnPoint (interval a c) (λ first.
       unless_refused Keeps (int_lt low (pos 1) || int_lt high low) BadInterval (small a c) (λ good.
-      unless_refused Keeps (not (within_limit high)) (Limit Number) (room a c) (λ fitting.
+      unless_refused Keeps (not (within_limit high)) (Limit Number) (spare_capacity a c) (λ fitting.
       unless_refused Keeps (nat_le most_links (length net.links)) (Limit Links) (Ok (more a c)) (λ roomy. refl)))))))
 
   part_delay : (part : Part) → IfOk (with_part net part) Keeps

@@ -1,5 +1,6 @@
 -- A network without one of its points, bounds or links, and one in which a number is set, is a network.
-use Rattle.std.proofs.Common.{◌≡◌, ◌≢◌, ℕ, ℤ, suc, ◌+◌, ◌-◌, ◌<◌, ◌≤◌, unsigned_abs, ◌==◌, ◌||◌, Bool, true, false, not, cond, nat_lt, List, [], ◌∷◌, ◌++◌, length, map, take, drop, get_or, set, Option, Some, None, Result, Ok, Err, position, slice_get, pos, int_lt, ◌≤ℤ◌, IsTrue, ◌⊎◌, ⊎_elim, inl, inr, refl, sym, ap, subst, ◌∙◌, arith}
+use Rattle.std.proofs.Common.{◌≡◌, ◌≢◌, ℕ, ℤ, suc, ◌+◌, ◌-◌, ◌<◌, ◌≤◌, unsigned_abs, ◌==◌, ◌||◌, Bool, true, false, not, cond, nat_lt, List, [], ◌∷◌, ◌++◌, length, map, take, drop, get_or, set, Option, Some, None, Result, Ok, Err, position}
+use Rattle.std.proofs.Common.{slice_get, pos, int_lt, ◌≤ℤ◌, IsTrue, ◌⊎◌, ⊎_elim, inl, inr, refl, sym, ap, subst, ◌∙◌, arith}
 use Rattle.std.specs.List.{All, AllPairs, IsDistinct, remove}
 use Rattle.std.specs.Option.{option_and_then}
 use Rattle.std.specs.Str.{bytes_eq}
@@ -14,11 +15,11 @@ use Rattle.std.proofs.lemmas.List.Elements.{All-append, All-take, All-drop, All-
 use Rattle.std.proofs.lemmas.List.Quantifiers.{all_pairs_remove}
 use Rattle.std.proofs.lemmas.Map.Keys.{apart_from_distinct, IsDistinct-from_apart}
 use Rattle.std.proofs.lemmas.Option.{slice_get_within, slice_get_read, slice_get-get_or, get_or_from_slice_get}
-use Rattle.net_model.proofs.FillingLemmas.{pairs_from_map}
+use Rattle.net_model.proofs.NetworkListLemmas.{pairs_from_map}
 use Rattle.net_model.proofs.NetworkLemmas.{IsBound-more, IsLink-more}
 use Rattle.net_model.proofs.Positions.{fails_from_None, None_from_option_map}
-use Rattle.net_model.specs.Building.{Adds, named, refuse_if}
-use Rattle.net_model.specs.Editing.{closed_up, closed_up_bounds, closed_up_links, without_point, with_number, with_interval, bound_user, link_user, user_by, user_of, known, edited, cause_of, added, Edits}
+use Rattle.net_model.specs.BuiltNetwork.{Adds, named, refuse_if}
+use Rattle.net_model.specs.EditedNetwork.{closed_up, closed_up_bounds, closed_up_links, without_point, with_number, with_interval, bound_user, link_user, user_by, user_of, known, edited, cause_of, added, Edits}
 use Rattle.net_model.specs.Limits.{most_delay, most_number, most_size, within_limit, within_size}
 use Rattle.net_model.specs.Names.{is_name}
 use Rattle.net_model.specs.Network.{Plan, IsPlan, IsBound, IsLink, point_named, bound_named, activation, link_named}
@@ -45,7 +46,7 @@ IsDistinct-remove : (names : List (List ℕ)) (n : ℕ) → n < length names →
 IsDistinct-remove names n inside distinct =
     IsDistinct-from_apart bytes_eq (remove names n) (all_pairs_remove (λ x y. bytes_eq x y ≡ false) names n inside (λ i j d less within. apart_from_distinct bytes_eq names i j d distinct less within))
 
--- what stands of each two items stands by what a function makes of them
+-- what is true of each two items is true by what a function makes of them
 pairs_of_map : {X Y : Type 0} (R : Y → Y → Type 0) (f : X → Y) (xs : List X) → AllPairs (λ x y. R (f x) (f y)) xs → AllPairs R (map f xs)
 pairs_of_map R f [] pairs i j e less inside = absurd (omega arith)
 pairs_of_map R f (x ∷ xs) pairs i j e less inside =
@@ -82,7 +83,7 @@ names_closed_up : (dropped : PointId) (bounds : List Bound) → map (λ (b : Bou
 names_closed_up dropped [] = refl
 names_closed_up dropped (b ∷ bounds) = ap (λ names. b.name ∷ names) (names_closed_up dropped bounds)
 
--- where nothing uses a point, no bound and no link does
+-- if nothing uses a point, no bound and no link does
 no_user : (bound : Option BoundId) (link : Option LinkId) → user_by bound link ≡ None → (bound ≡ None) × (link ≡ None)
 no_user (Some bound) link none = absurd (cc)
 no_user None (Some link) none = absurd (cc)
@@ -165,7 +166,8 @@ module _ (net : Plan) (sound : IsPlan net) where
         bounds_sound = All-IsBound net (with_interval net id low high link) refl refl net.bounds sound.bounds_sound;
         bounds_apart = sound.bounds_apart;
         links_sound = All-IsLink net (with_interval net id low high link) refl refl (set net.links id.0 now) (All-set (IsLink net) net.links id.0 now kept sound.links_sound);
-        links_apart = pairs_from_map (λ (p q : ℕ). p ≢ q) (λ (l : Link). l.to.0) (set net.links id.0 now) (subst (AllPairs (λ (p q : ℕ). p ≢ q)) (sym tos) (pairs_of_map (λ (p q : ℕ). p ≢ q) (λ (l : Link). l.to.0) net.links sound.links_apart));
+        links_apart = pairs_from_map (λ (p q : ℕ). p ≢ q) (λ (l : Link). l.to.0) (set net.links id.0 now) (subst (AllPairs (λ (p q : ℕ). p ≢ q)) (sym tos)
+            (pairs_of_map (λ (p q : ℕ). p ≢ q) (λ (l : Link). l.to.0) net.links sound.links_apart));
         few_points = sound.few_points;
         few_bounds = sound.few_bounds;
         few_links = omega (arith, length-set net.links id.0 now, sound.few_links);
@@ -174,7 +176,7 @@ module _ (net : Plan) (sound : IsPlan net) where
 
   -- ---- one point less, which nothing uses
   module _ (dropped : PointId) (inside : dropped.0 < length net.points) (free : user_of net dropped ≡ None) where
-    -- a point other than the one that is dropped stands among those that are left
+    -- a point other than the one that is dropped is among those that are left
     stays : (point : PointId) → point.0 < length net.points → point.0 ≢ dropped.0 → (closed_up dropped point).0 < length (remove net.points dropped.0)
     stays point held other =
         let left = length-remove net.points dropped.0 inside in
@@ -242,7 +244,7 @@ module _ (net : Plan) (sound : IsPlan net) where
       short_delay = sound.short_delay;
     }
 
--- ---- what is named stands in its list
+-- ---- what is named is in its list
 pub bound_within : (net : Plan) (name : List ℕ) (id : BoundId) → bound_named net name ≡ Some id → id.0 < length net.bounds
 bound_within net name id named = grind (arith, common_steps)
 
@@ -265,7 +267,7 @@ pub made_sound : (made : Plan) (points : List (List ℕ)) (bounds : List Bound) 
     → IsPlan (record { points = points; bounds = bounds; links = links; delay = made.delay })
 made_sound made points bounds links same_points same_bounds same_links = subst IsPlan (sym (made_of made points bounds links same_points same_bounds same_links))
 
--- ---- what a setting makes where it is not refused
+-- ---- what setting a number or an interval makes if it is not refused
 pub number_set : (net : Plan) (name : List ℕ) (id : BoundId) (most : ℤ) (bound : Bound) → bound_named net name ≡ Some id → slice_get net.bounds id.0 ≡ Some bound → within_limit most ≡ true
     → edited net (edits.SetBound name most) ≡ Ok (with_number net id most bound)
 number_set net name id most bound named at small =
@@ -278,7 +280,8 @@ pub interval_set : (net : Plan) (to : List ℕ) (id : LinkId) (low high : ℤ) (
     → edited net (edits.SetLink to low high) ≡ Ok (with_interval net id low high link)
 interval_set net to id low high link named at positive interval small =
     let good : (int_lt low (pos 1) || int_lt high low) ≡ false = grind (arith, ints) in
-    ap (λ (o : Option LinkId). known o (λ k. known (slice_get net.links k.0) (λ l. refuse_if (int_lt low (pos 1) || int_lt high low) fault.BadInterval (refuse_if (not (within_limit high)) (fault.Limit Number) (Ok (with_interval net k low high l)))))) named
+    ap (λ (o : Option LinkId). known o (λ k. known (slice_get net.links k.0) (λ l. refuse_if (int_lt low (pos 1) || int_lt high low) fault.BadInterval
+    (refuse_if (not (within_limit high)) (fault.Limit Number) (Ok (with_interval net k low high l)))))) named
     ∙ ap (λ (o : Option Link). known o (λ l. refuse_if (int_lt low (pos 1) || int_lt high low) fault.BadInterval (refuse_if (not (within_limit high)) (fault.Limit Number) (Ok (with_interval net id low high l))))) at
     ∙ ap (λ (t : Bool). refuse_if t fault.BadInterval (refuse_if (not (within_limit high)) (fault.Limit Number) (Ok (with_interval net id low high link)))) good
     ∙ ap (λ (t : Bool). refuse_if (not t) (fault.Limit Number) (Ok (with_interval net id low high link))) small
@@ -299,8 +302,8 @@ interval_made net sound to id low high d named above ordered small =
     let interval : low ≤ℤ high = grind (arith, ints) in
     (sound_with_interval net sound id low high (get_or net.links id.0 d) at positive interval small, interval_set net to id low high (get_or net.links id.0 d) named at positive interval small)
 
--- ---- what a setting answers where it is refused
--- what comes of what was found, and of what was read there, where that is refused
+-- ---- what setting a number or an interval answers if it is refused
+-- what comes of what was found, and of what was read there, if that is refused
 known_refused : {A B : Type 0} (found : Option A) (a : A) (seen : A → Option B) (b : B) (next : A → B → Result Plan EditFault) (cause : EditFault)
     → found ≡ Some a → seen a ≡ Some b → next a b ≡ Err cause → known found (λ x. known (seen x) (next x)) ≡ Err cause
 known_refused {A} {B} found a seen b next cause is here refused =

@@ -51,13 +51,13 @@ pub length-padded : (text : List ℕ) → length text ≤ 32 → length (padded 
 length-padded text fits =
     omega (arith, length-append text (replicate (32 - length text) 0), length-replicate {A = ℕ} (32 - length text) 0)
 
--- what is written over the front of 32 zeros is the padding of it
-pub padded_over : (text front : List ℕ) → front ≡ text → length text ≤ 32 → front ++ drop (length text) (replicate 32 0) ≡ padded text
-padded_over text front same fits =
+-- a text that is written over the first of 32 zeros gives its padding
+pub padded_over : (text prefix : List ℕ) → prefix ≡ text → length text ≤ 32 → prefix ++ drop (length text) (replicate 32 0) ≡ padded text
+padded_over text prefix same fits =
     let zeros : drop (length text) (replicate 32 0) ≡ replicate (32 - length text) 0 = drop-replicate (length text) 32 0 in
     ap (λ (xs : List ℕ). xs ++ drop (length text) (replicate 32 0)) same ∙ ap (λ (xs : List ℕ). text ++ xs) zeros
 
--- the front of the padding is the text
+-- the prefix of the padding is the text
 pub take-padded : (text : List ℕ) → take (length text) (padded text) ≡ text
 take-padded text = take_at text (replicate (32 - length text) 0) (length text) refl
 
@@ -67,10 +67,10 @@ unfolding is_name
 short_named [] end named few all four = absurd (cc)
 short_named (b ∷ bs) end named few all four =
     let parts = and_parts (is_letter b && list_all is_name_byte bs) (ltb (length bs) 32) named in
-    let front = and_parts (is_letter b) (list_all is_name_byte bs) parts.0 in
-    let both : list_all is_name_byte (bs ++ end) ≡ true = list_all-append is_name_byte bs end ∙ rw (front.1, all) refl in
+    let prefix = and_parts (is_letter b) (list_all is_name_byte bs) parts.0 in
+    let both : list_all is_name_byte (bs ++ end) ≡ true = list_all-append is_name_byte bs end ∙ rw (prefix.1, all) refl in
     let less : ltb (length (bs ++ end)) 32 ≡ true = lt-ltb (length (bs ++ end)) 32 (omega (arith, length-append bs end)) in
-    rw (front.0, both, less) refl
+    rw (prefix.0, both, less) refl
 
 -- bytes written after a name, over the zeros that follow it
 module _ (bytes text end : List ℕ) (len k : ℕ) (is : bytes ≡ padded text) (counted : len ≡ length text) (so_many : k ≡ length end) (fits : len + length end ≤ 32) where
@@ -86,8 +86,8 @@ module _ (bytes text end : List ℕ) (len k : ℕ) (is : bytes ≡ padded text) 
   before : take len bytes ≡ text
   before = rw (is, counted) (take-padded text)
 
-  pub front : take (len + length end) written ≡ text ++ end
-  front = take-put_mid len k bytes end (len + length end) refl (omega (arith, long)) ∙ ap (λ (xs : List ℕ). xs ++ end) before
+  pub prefix : take (len + length end) written ≡ text ++ end
+  prefix = take-put_mid len k bytes end (len + length end) refl (omega (arith, long)) ∙ ap (λ (xs : List ℕ). xs ++ end) before
 
   after : drop (len + length end) written ≡ replicate (32 - length (text ++ end)) 0
   after =
@@ -100,12 +100,12 @@ module _ (bytes text end : List ℕ) (len k : ℕ) (is : bytes ≡ padded text) 
   pub written_padded : written ≡ padded (text ++ end)
   written_padded =
       sym (take-append-drop (len + length end) written)
-      ∙ (ap (λ (xs : List ℕ). xs ++ drop (len + length end) written) front ∙ ap (λ (xs : List ℕ). (text ++ end) ++ xs) after)
+      ∙ (ap (λ (xs : List ℕ). xs ++ drop (len + length end) written) prefix ∙ ap (λ (xs : List ℕ). (text ++ end) ++ xs) after)
 
   pub written_is : IsTrue (is_name (text ++ end)) → (length written ≡ 32) × (len + length end ≤ 32) × (written ≡ padded (take (len + length end) written)) × IsTrue (is_name (take (len + length end) written))
   written_is named = (
     ap length written_padded ∙ length-padded (text ++ end) (omega (arith, count)),
     fits,
-    written_padded ∙ ap padded (sym front),
-    subst (λ (xs : List ℕ). IsTrue (is_name xs)) (sym front) named,
+    written_padded ∙ ap padded (sym prefix),
+    subst (λ (xs : List ℕ). IsTrue (is_name xs)) (sym prefix) named,
   )

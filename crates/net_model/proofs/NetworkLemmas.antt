@@ -55,8 +55,8 @@ abbrev pub more_points : Plan → List ℕ → Plan
 more_points net name = record net { points = net.points ++ name ∷ [] }
 
 pub IsPlan-more_points : (net : Plan) (name : List ℕ) → IsPlan net → IsTrue (is_name name) → point_named net name ≡ None → length net.points < most_points → IsPlan (more_points net name)
-IsPlan-more_points net name plan named fresh room =
-    let none = None_from_option_map _ (position (bytes_eq name) net.points) fresh in
+IsPlan-more_points net name plan named not_taken spare_capacity =
+    let none = None_from_option_map _ (position (bytes_eq name) net.points) not_taken in
     let grown : length net.points ≤ length (net.points ++ name ∷ []) = grind (arith, common_steps) in
     record {
       points_named = All-push (λ n. IsTrue (is_name n)) net.points name plan.points_named named;
@@ -87,15 +87,16 @@ bound_named-names_of net name = ap (option_map (λ k. record { 0 = k })) (positi
 
 -- no bound has a name that is free
 pub free_name : (net : Plan) (name : List ℕ) → bound_named net name ≡ None → position (bytes_eq name) (names_of net.bounds) ≡ None
-free_name net name fresh =
-    position-map (bytes_eq name) (λ (b : Bound). b.name) net.bounds ∙ None_from_option_map _ (position (λ (b : Bound). bytes_eq name b.name) net.bounds) fresh
+free_name net name not_taken =
+    position-map (bytes_eq name) (λ (b : Bound). b.name) net.bounds ∙ None_from_option_map _ (position (λ (b : Bound). bytes_eq name b.name) net.bounds) not_taken
 
 pub IsPlan-more_bounds : (net : Plan) (bound : Bound) → IsPlan net → IsBound net bound → bound_named net bound.name ≡ None → length net.bounds < most_bounds → IsPlan (more_bounds net bound)
-IsPlan-more_bounds net bound plan sound fresh room = record {
+IsPlan-more_bounds net bound plan sound not_taken spare_capacity = record {
   points_named = plan.points_named;
   points_apart = plan.points_apart;
   bounds_sound = All-IsBound-more net (more_bounds net bound) (omega arith) refl (net.bounds ++ bound ∷ []) (All-push (IsBound net) net.bounds bound plan.bounds_sound sound);
-  bounds_apart = rw (names_of-push net.bounds bound) (IsDistinct-push nat_list_eq_equiv (names_of net.bounds) bound.name plan.bounds_apart (list_any_from_None (bytes_eq bound.name) (names_of net.bounds) (free_name net bound.name fresh)));
+  bounds_apart = rw (names_of-push net.bounds bound) (IsDistinct-push nat_list_eq_equiv (names_of net.bounds) bound.name plan.bounds_apart
+      (list_any_from_None (bytes_eq bound.name) (names_of net.bounds) (free_name net bound.name not_taken)));
   links_sound = All-IsLink-more net (more_bounds net bound) (omega arith) refl net.links plan.links_sound;
   links_apart = plan.links_apart;
   few_points = plan.few_points;
@@ -109,8 +110,8 @@ abbrev pub more_links : Plan → Link → Plan
 more_links net link = record net { links = net.links ++ link ∷ [] }
 
 pub IsPlan-more_links : (net : Plan) (link : Link) → IsPlan net → IsLink net link → activation net link.to ≡ None → length net.links < most_links → IsPlan (more_links net link)
-IsPlan-more_links net link plan sound fresh room =
-    let none = None_from_option_map _ (position (λ (l : Link). l.to.0 == link.to.0) net.links) fresh in
+IsPlan-more_links net link plan sound not_taken spare_capacity =
+    let none = None_from_option_map _ (position (λ (l : Link). l.to.0 == link.to.0) net.links) not_taken in
     record {
       points_named = plan.points_named;
       points_apart = plan.points_apart;
@@ -158,26 +159,26 @@ bound_named-bad net plan text bad =
     ap (option_map (λ k. record { 0 = k })) none
 
 -- ---- the links that begin in a point
-abbrev pub beginning : ℕ → List Link → List LinkId
-beginning point links = map (λ (e : ℕ × Link). record { 0 = e.0 }) (filter (λ (e : ℕ × Link). e.1.from.0 == point) (enumerate_from 0 links))
+abbrev pub outgoing : ℕ → List Link → List LinkId
+outgoing point links = map (λ (e : ℕ × Link). record { 0 = e.0 }) (filter (λ (e : ℕ × Link). e.1.from.0 == point) (enumerate_from 0 links))
 
 pub enumerate_from-push : {X : Type 0} (n m : ℕ) (xs : List X) (x : X) → m ≡ n + length xs → enumerate_from n (xs ++ x ∷ []) ≡ enumerate_from n xs ++ (m, x) ∷ []
 enumerate_from-push n m [] x at = let same : n ≡ m = omega arith in ap (λ k. (k, x) ∷ []) same
 enumerate_from-push n m (y ∷ xs) x at = ap (λ es. (n, y) ∷ es) (enumerate_from-push (n + 1) m xs x (omega arith))
 
-beginning-push : (point place : ℕ) (links : List Link) (link : Link) → place ≡ length links
-    → beginning point (links ++ link ∷ []) ≡ beginning point links ++ map (λ (e : ℕ × Link). record { 0 = e.0 }) (filter (λ (e : ℕ × Link). e.1.from.0 == point) ((place, link) ∷ []))
-beginning-push point place links link at = rw (enumerate_from-push 0 place links link (omega arith), filter-append, map-append)
+outgoing-push : (point place : ℕ) (links : List Link) (link : Link) → place ≡ length links
+    → outgoing point (links ++ link ∷ []) ≡ outgoing point links ++ map (λ (e : ℕ × Link). record { 0 = e.0 }) (filter (λ (e : ℕ × Link). e.1.from.0 == point) ((place, link) ∷ []))
+outgoing-push point place links link at = rw (enumerate_from-push 0 place links link (omega arith), filter-append, map-append)
 
 module _ (point place : ℕ) (links : List Link) (d : Link) (inside : place < length links) where
-  beginning_more : beginning point (take (place + 1) links) ≡ beginning point (take place links) ++ map (λ (e : ℕ × Link). record { 0 = e.0 }) (filter (λ (e : ℕ × Link). e.1.from.0 == point) ((place, get_or links place d) ∷ []))
-  beginning_more = ap (beginning point) (take_more links place d inside) ∙ beginning-push point place (take place links) (get_or links place d) (grind (arith, common_steps))
+  links_from_more : outgoing point (take (place + 1) links) ≡ outgoing point (take place links) ++ map (λ (e : ℕ × Link). record { 0 = e.0 }) (filter (λ (e : ℕ × Link). e.1.from.0 == point) ((place, get_or links place d) ∷ []))
+  links_from_more = ap (outgoing point) (take_more links place d inside) ∙ outgoing-push point place (take place links) (get_or links place d) (grind (arith, common_steps))
 
-  pub beginning_more_yes : (get_or links place d).from.0 == point ≡ true → beginning point (take (place + 1) links) ≡ beginning point (take place links) ++ record { 0 = place } ∷ []
-  beginning_more_yes begins = beginning_more ∙ ap (λ (t : Bool). beginning point (take place links) ++ map (λ (e : ℕ × Link). record { 0 = e.0 }) (cond t ((place, get_or links place d) ∷ []) [])) begins
+  pub links_from_more_yes : (get_or links place d).from.0 == point ≡ true → outgoing point (take (place + 1) links) ≡ outgoing point (take place links) ++ record { 0 = place } ∷ []
+  links_from_more_yes begins = links_from_more ∙ ap (λ (t : Bool). outgoing point (take place links) ++ map (λ (e : ℕ × Link). record { 0 = e.0 }) (cond t ((place, get_or links place d) ∷ []) [])) begins
 
-  pub beginning_more_no : (get_or links place d).from.0 == point ≡ false → beginning point (take (place + 1) links) ≡ beginning point (take place links)
-  beginning_more_no other = beginning_more ∙ ap (λ (t : Bool). beginning point (take place links) ++ map (λ (e : ℕ × Link). record { 0 = e.0 }) (cond t ((place, get_or links place d) ∷ []) [])) other ∙ append-nil _
+  pub links_from_more_no : (get_or links place d).from.0 == point ≡ false → outgoing point (take (place + 1) links) ≡ outgoing point (take place links)
+  links_from_more_no other = links_from_more ∙ ap (λ (t : Bool). outgoing point (take place links) ++ map (λ (e : ℕ × Link). record { 0 = e.0 }) (cond t ((place, get_or links place d) ∷ []) [])) other ∙ append-nil _
 
 -- ---- numbers
 pub fold_max-le : {X : Type 0} (size : X → ℕ) (most start : ℕ) (xs : List X) → start ≤ most → All (λ x. size x ≤ most) xs → fold (λ m x. max m (size x)) start xs ≤ most

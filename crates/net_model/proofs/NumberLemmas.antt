@@ -12,7 +12,7 @@ fold_at_least : (value : ℕ) (digits : List ℕ) → value ≤ fold with_digit 
 fold_at_least value [] = omega arith
 fold_at_least value (digit ∷ digits) = omega (arith, fold_at_least (with_digit value digit) digits)
 
--- a front of digits spells at most what all of them do
+-- a prefix of digits spells at most what all of them do
 pub value_of-take : (n : ℕ) (digits : List ℕ) → value_of (take n digits) ≤ value_of digits
 value_of-take n digits =
     let parts : value_of (take n digits ++ drop n digits) ≡ fold with_digit (value_of (take n digits)) (drop n digits) = fold-append with_digit 0 (take n digits) (drop n digits) in

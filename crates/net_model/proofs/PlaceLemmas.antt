@@ -1,7 +1,7 @@
 -- The place of a refused part.
 use Rattle.std.proofs.Common.{◌≡◌, ℕ, ◌+◌, ◌<◌, ◌≤◌, List, [], ◌∷◌, length, Some, Result, Ok, Err, ap, ◌∙◌, arith}
 use Rattle.net_model.specs.Network.{Plan}
-use Rattle.net_model.specs.Building.{at_place, place_of, with_part, with_parts, built, Builds}
+use Rattle.net_model.specs.BuiltNetwork.{at_place, place_of, with_part, with_parts, built, Builds}
 use Rattle.net_model.specs.declared.part.Part.{Part}
 use Rattle.net_model.specs.declared.fault.PartFault.{PartFault}
 use Rattle.net_model.specs.declared.fault.PartFault.TheVariants.{DuplicateName, UnknownName, TwoLinksOnPoint, LinkToItself, BadInterval, Limit, OutOfMemory}
@@ -23,10 +23,11 @@ record IsWithin (before place : ℕ) (parts : List Part) : Type 0 where
   few : place ≤ before + length parts
 
 -- what is built from the answer to a part on
-abbrev onward : ℕ → List Part → Result Plan PartFault → Result Plan BuildFault
-onward n parts here = elim here [ Ok more ↦ with_parts (n + 1) more parts | Err why ↦ Err (at_place (n + 1) why) ]
+abbrev continued : ℕ → List Part → Result Plan PartFault → Result Plan BuildFault
+continued n parts here = elim here [ Ok more ↦ with_parts (n + 1) more parts | Err why ↦ Err (at_place (n + 1) why) ]
 
-within_by : (n : ℕ) (p : Part) (parts : List Part) (fault : BuildFault) (place : ℕ) (here : Result Plan PartFault) → ((net : Plan) → with_parts (n + 1) net parts ≡ Err fault → IsWithin (n + 1) place parts) → onward n parts here ≡ Err fault → place_of fault ≡ Some place → IsWithin n place (p ∷ parts)
+within_by : (n : ℕ) (p : Part) (parts : List Part) (fault : BuildFault) (place : ℕ) (here : Result Plan PartFault) → ((net : Plan) → with_parts (n + 1) net parts ≡ Err fault → IsWithin (n + 1) place parts)
+    → continued n parts here ≡ Err fault → place_of fault ≡ Some place → IsWithin n place (p ∷ parts)
 within_by n p parts fault place (Ok net) further refused is =
     let rest = further net refused in
     record { after = omega (arith, rest.after); few = omega (arith, rest.few) }

@@ -3,7 +3,7 @@ use Rattle.std.proofs.Common.{◌≡◌, ◌++◌, ◌∷◌, [], ℕ, ℤ, ◌+
 use Rattle.std.proofs.lemmas.List.Elements.{All-push}
 use Rattle.net_model.specs.Limits.{most_points, most_links, most_bounds, within_limit}
 use Rattle.net_model.specs.Network.{Plan, HasPlanNumbers, point_named, bound_named, activation, empty}
-use Rattle.net_model.specs.Building.{◌>>=◌, refuse_if, named, with_point, with_bound, with_link, with_part, with_parts, built, at_place}
+use Rattle.net_model.specs.BuiltNetwork.{◌>>=◌, refuse_if, named, with_point, with_bound, with_link, with_part, with_parts, built, at_place}
 use Rattle.net_model.specs.declared.ids.PointId.{PointId}
 use Rattle.net_model.specs.declared.part.Bound.{Bound}
 use Rattle.net_model.specs.declared.part.Link.{Link}
@@ -13,7 +13,7 @@ use Rattle.net_model.specs.declared.part.Which.TheVariants.{Points, Links, Bound
 use Rattle.net_model.specs.declared.fault.PartFault.{PartFault}
 use Rattle.net_model.specs.declared.fault.PartFault.TheVariants.{DuplicateName, TwoLinksOnPoint, LinkToItself, BadInterval, Limit}
 
--- what may be refused keeps what it keeps where its test fails
+-- what may be refused keeps what it keeps if its test fails
 pub unless_refused : {A : Type 0} (P : A → Type 0) (test : Bool) (fault : PartFault) (otherwise : Result A PartFault) → (test ≡ false → IfOk otherwise P) → IfOk (refuse_if test fault otherwise) P
 unless_refused P true fault otherwise keeps = tt
 unless_refused P false fault otherwise keeps = keeps refl
@@ -38,8 +38,8 @@ unfolding with_point
 point_keeps net name numbers =
     let more : Plan = record net { points = net.points ++ name ∷ [] } in
     let kept : HasPlanNumbers more = record { bounds = numbers.bounds; links = numbers.links } in
-    let room : Result Plan PartFault = refuse_if (nat_le most_points (length net.points)) (Limit Points) (Ok more) in
-    unless_refused HasPlanNumbers (is_some (point_named net name)) DuplicateName room (λ fresh.
+    let spare_capacity : Result Plan PartFault = refuse_if (nat_le most_points (length net.points)) (Limit Points) (Ok more) in
+    unless_refused HasPlanNumbers (is_some (point_named net name)) DuplicateName spare_capacity (λ not_taken.
     unless_refused HasPlanNumbers (nat_le most_points (length net.points)) (Limit Points) (Ok more) (λ roomy. kept))
 
 bound_keeps : (net : Plan) (name from to : List ℕ) (most : ℤ) → HasPlanNumbers net → IfOk (with_bound net name from to most) HasPlanNumbers
@@ -51,13 +51,13 @@ bound_keeps net name from to most numbers =
       bounds = All-push (λ (b : Bound). within_limit b.most ≡ true) net.bounds (bound x y) numbers.bounds small;
       links = numbers.links;
     } in
-    let room : PointId → PointId → Result Plan PartFault = λ x y. refuse_if (nat_le most_bounds (length net.bounds)) (Limit Bounds) (Ok (more x y)) in
-    let small : PointId → PointId → Result Plan PartFault = λ x y. refuse_if (not (within_limit most)) (Limit Number) (room x y) in
+    let spare_capacity : PointId → PointId → Result Plan PartFault = λ x y. refuse_if (nat_le most_bounds (length net.bounds)) (Limit Bounds) (Ok (more x y)) in
+    let small : PointId → PointId → Result Plan PartFault = λ x y. refuse_if (not (within_limit most)) (Limit Number) (spare_capacity x y) in
     let ends : Result Plan PartFault = named net from >>= (λ x. named net to >>= (λ y. small x y)) in
-    unless_refused HasPlanNumbers (is_some (bound_named net name)) DuplicateName ends (λ fresh.
+    unless_refused HasPlanNumbers (is_some (bound_named net name)) DuplicateName ends (λ not_taken.
     whatever_came HasPlanNumbers (named net from) (λ x. named net to >>= (λ y. small x y)) (λ x.
     whatever_came HasPlanNumbers (named net to) (λ y. small x y) (λ y.
-    unless_refused HasPlanNumbers (not (within_limit most)) (Limit Number) (room x y) (λ fitting.
+    unless_refused HasPlanNumbers (not (within_limit most)) (Limit Number) (spare_capacity x y) (λ fitting.
     unless_refused HasPlanNumbers (nat_le most_bounds (length net.bounds)) (Limit Bounds) (Ok (more x y)) (λ roomy. kept x y (fits most fitting))))))
 
 link_keeps : (net : Plan) (from : List ℕ) (low high : ℤ) (to : List ℕ) → HasPlanNumbers net → IfOk (with_link net from low high to) HasPlanNumbers
@@ -69,8 +69,8 @@ link_keeps net from low high to numbers =
       bounds = numbers.bounds;
       links = All-push (λ (l : Link). within_limit l.high ≡ true) net.links (link a c) numbers.links small;
     } in
-    let room : PointId → PointId → Result Plan PartFault = λ a c. refuse_if (nat_le most_links (length net.links)) (Limit Links) (Ok (more a c)) in
-    let small : PointId → PointId → Result Plan PartFault = λ a c. refuse_if (not (within_limit high)) (Limit Number) (room a c) in
+    let spare_capacity : PointId → PointId → Result Plan PartFault = λ a c. refuse_if (nat_le most_links (length net.links)) (Limit Links) (Ok (more a c)) in
+    let small : PointId → PointId → Result Plan PartFault = λ a c. refuse_if (not (within_limit high)) (Limit Number) (spare_capacity a c) in
     let interval : PointId → PointId → Result Plan PartFault = λ a c. refuse_if (int_lt low (pos 1) || int_lt high low) BadInterval (small a c) in
     let free : PointId → PointId → Result Plan PartFault = λ a c. refuse_if (is_some (activation net c)) TwoLinksOnPoint (interval a c) in
     let apart : PointId → PointId → Result Plan PartFault = λ a c. refuse_if (a.0 == c.0) LinkToItself (free a c) in
@@ -79,7 +79,7 @@ link_keeps net from low high to numbers =
     unless_refused HasPlanNumbers (a.0 == c.0) LinkToItself (free a c) (λ other.
     unless_refused HasPlanNumbers (is_some (activation net c)) TwoLinksOnPoint (interval a c) (λ first.
     unless_refused HasPlanNumbers (int_lt low (pos 1) || int_lt high low) BadInterval (small a c) (λ good.
-    unless_refused HasPlanNumbers (not (within_limit high)) (Limit Number) (room a c) (λ fitting.
+    unless_refused HasPlanNumbers (not (within_limit high)) (Limit Number) (spare_capacity a c) (λ fitting.
     unless_refused HasPlanNumbers (nat_le most_links (length net.links)) (Limit Links) (Ok (more a c)) (λ roomy. kept a c (fits high fitting))))))))
 
 pub part_keeps : (net : Plan) (part : Part) → HasPlanNumbers net → IfOk (with_part net part) HasPlanNumbers

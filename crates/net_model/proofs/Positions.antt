@@ -1,4 +1,4 @@
--- The place that `position` gives: after a push, over a mapped list, and where no item passes.
+-- The place that `position` gives: after a push, over a mapped list, and if no item passes.
 use Rattle.std.proofs.Common.{◌≡◌, ℕ, ◌+◌, ◌<◌, ◌≤◌, ◌∙◌, Bool, true, false, cond, not, List, [], ◌∷◌, ◌++◌, length, get_or, map, Option, Some, None, position, refl, ap, arith}
 use Rattle.std.specs.Prelude.{nat_lt}
 use Rattle.std.specs.List.{All, list_any, position_or_len}
@@ -8,7 +8,7 @@ use Rattle.std.proofs.lemmas.Bool.Decides.{nat_tests}
 use Rattle.std.proofs.lemmas.List.Sums.{fails_before_first, position_or_len_is, prefix_len-le-length}
 use Rattle.std.proofs.lemmas.List.Folds.{list_any_none}
 
--- an answer that a function makes of a place is `None` only where there is no place
+-- an answer that a function makes of a place is `None` only if there is no place
 pub None_from_option_map : {A B : Type 0} (f : A → B) (o : Option A) → option_map f o ≡ None → o ≡ None
 None_from_option_map f None e = refl
 None_from_option_map f (Some x) e = absurd (cc)
@@ -32,7 +32,7 @@ module _ {X : Type 0} (p : X → Bool) where
   pub position-push_fails : (xs : List X) (y : X) → p y ≡ false → position p (xs ++ y ∷ []) ≡ position p xs
   position-push_fails xs y fails = grind (arith, common_steps)
 
-  -- a pushed item that passes is the first where none passed before
+  -- a pushed item that passes is the first if none passed before
   pub position-push_passes : (xs : List X) (y : X) → position p xs ≡ None → p y ≡ true → position p (xs ++ y ∷ []) ≡ Some (length xs)
   position-push_passes xs y none passes = grind (arith, common_steps, prefix_len-le-length (λ x. not (p x)) xs)
 

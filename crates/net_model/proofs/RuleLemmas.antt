@@ -1,4 +1,4 @@
--- What a rule asks of its premises where it gives an edge, and that a certificate may state what an exact rule gives.
+-- What a rule requires of its premises if it gives an edge, and that a certificate may state what an exact rule gives.
 use Rattle.std.proofs.Common.{◌≡◌, ◌≢◌, ℕ, ℤ, pos, ◌≤ℤ◌, ◌<ℤ◌, ◌+ℤ◌, ◌-ℤ◌, ◌==◌, ◌&&◌, not, Bool, true, false, cond, List, Option, Some, None, refl, ap, sym, ◌∙◌, subst, arith, is_some, is_none}
 use Rattle.std.specs.Prelude.{slice_get}
 use Rattle.std.specs.Int.{int_max}
@@ -51,7 +51,7 @@ another_is name edge label labelled other same =
     by true equal is = let both : not (is_labelled_by name edge) ≡ false = rw (is, equal) refl in absurd cc
     by false equal is = let equal' : (label.0 == label.0) ≡ false = ap (λ (l : LinkId). label.0 == l.0) same ∙ equal in grind (arith, ints)
 
--- ---- what a rule asks for
+-- ---- what a rule requires
 pub record NoCaseGives (first second edge : Edge) : Type 0 where
   pub first_ordinary : first.label ≡ None
   pub second_ordinary : second.label ≡ None
@@ -163,7 +163,8 @@ pub record RemovalGives (net : Plan) (premise edge : Edge) : Type 0 where
 pub removal_gives : (net : Plan) (premise edge : Edge) → removal net premise ≡ Some edge → RemovalGives net premise edge
 unfolding removal
 removal_gives net premise edge gave =
-    let (name, labelled, there) = two_steps (λ (name : LinkId). option_and_then (λ (link : Link). Some (record premise { label = None; weight = int_max premise.weight (pos 0 -ℤ link.low) })) (slice_get net.links name.0)) premise.label edge gave in
+    let (name, labelled, there) = two_steps (λ (name : LinkId). option_and_then (λ (link : Link). Some (record premise { label = None; weight = int_max premise.weight (pos 0 -ℤ link.low) })) (slice_get net.links name.0)) premise.label edge
+    gave in
     let (link, declared, here) = two_steps (λ (link : Link). Some (record premise { label = None; weight = int_max premise.weight (pos 0 -ℤ link.low) })) (slice_get net.links name.0) edge there in
     record { name = name; link = link; declared = declared; labelled = labelled; is = some_inj here }
   where
@@ -297,5 +298,5 @@ module _ (net : Plan) (earlier : List Edge) where
       found : AllByRecursion (IsEdge net) earlier → (e : Edge) → Contains earlier e → IsEdge net e
       found all e (k, inside, is) = subst (IsEdge net) is (All-from_recursion (IsEdge net) earlier all k e inside)
 
-pub exact_may_be_stated : ExactMayBeStated
-exact_may_be_stated net earlier edge sound follows = stated net earlier sound edge follows
+pub law_exact_may_be_stated : ExactMayBeStated
+law_exact_may_be_stated net earlier edge sound follows = stated net earlier sound edge follows

@@ -1,5 +1,6 @@
 -- The shown form of a network is a network, with numbers near to those of the network; without a delay it is the network itself.
-use Rattle.std.proofs.Common.{◌≡◌, ℕ, ℤ, pos, zero, suc, take, drop, ◌+◌, ◌<◌, ◌≤◌, ◌+ℤ◌, ◌-ℤ◌, ◌≤ℤ◌, List, [], ◌∷◌, ◌++◌, append_assoc, length, map, get_or, refl, sym, ap, subst, ◌∙◌, arith, unsigned_abs, true, false, Bool, cond, w64, to_z, of_z}
+use Rattle.std.proofs.Common.{◌≡◌, ℕ, ℤ, pos, zero, suc, take, drop, ◌+◌, ◌<◌, ◌≤◌, ◌+ℤ◌, ◌-ℤ◌, ◌≤ℤ◌, List, [], ◌∷◌, ◌++◌, append_assoc, length, map, get_or, refl, sym, ap, subst, ◌∙◌, arith, unsigned_abs, true, false, Bool, cond, w64}
+use Rattle.std.proofs.Common.{to_z, of_z}
 use Rattle.std.specs.Prelude.{is_some, fold, max}
 use Rattle.std.specs.List.{All, IsDistinct}
 use Rattle.std.specs.Str.{bytes_eq}
@@ -37,7 +38,7 @@ pub at_most_gain : (b : Bool) (delay : ℕ) → cond b 0 delay ≤ delay
 at_most_gain true delay = omega arith
 at_most_gain false delay = omega arith
 
--- what a number has room for with the delay it has room for as it is shown
+-- a number that is within a size with the delay is within it as it is shown
 both_fit : (n : ℤ) (a b delay : ℕ) → a ≤ delay → b ≤ delay → unsigned_abs n + delay ≤ most_size → unsigned_abs ((n +ℤ pos a) -ℤ pos b) ≤ most_size
 both_fit n a b delay least more within = grind (arith, ints)
 

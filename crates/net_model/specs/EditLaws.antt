@@ -1,7 +1,7 @@
--- What holds of the edits of a network.
+-- Laws about the edits of a network.
 use Rattle.std.specs.Prelude.{◌≡◌, ℕ, ℤ, Bool, false, not, List, [], ◌∷◌, ◌++◌, map, filter, Ok, IsTrue, if◌then◌else◌}
 use Rattle.std.specs.Str.{bytes_eq}
-use Rattle.net_model.specs.Editing.{edited}
+use Rattle.net_model.specs.EditedNetwork.{edited}
 use Rattle.net_model.specs.Names.{is_name}
 use Rattle.net_model.specs.Network.{Plan, IsPlan, HasPlanNumbers}
 use Rattle.net_model.specs.NetworkParts.{bound_part, link_part}
@@ -21,11 +21,12 @@ HasNames (edits.AddLink from low high to) = IsTrue (is_name from) × IsTrue (is_
 HasNames (edits.DropLink to) = IsTrue (is_name to)
 HasNames (edits.SetLink to low high) = IsTrue (is_name to)
 
--- what an accepted edit makes of a sound network is sound, and has the numbers of a plan where that one has them
+-- what an accepted edit makes of a sound network is sound, and has the numbers of a plan if the sound one has them
 pub record KeepsSound (net : Plan) (edit : Edit) (new : Plan) : Type 0 where
   pub sound : IsPlan net → HasNames edit → IsPlan new
   pub numbers : HasPlanNumbers net → HasPlanNumbers new
 
+-- what every accepted edit makes keeps that
 abbrev pub EditsKeepSound : Type 0
 EditsKeepSound = (net : Plan) (edit : Edit) (new : Plan) → edited net edit ≡ Ok new → KeepsSound net edit new
 
@@ -37,6 +38,7 @@ pub record ByNames : Type 0 where
   pub links : List Part
   pub delay : ℕ
 
+-- a network, by names alone
 abbrev pub by_names : Plan → ByNames
 by_names net = record { points = net.points; bounds = map (bound_part net.points) net.bounds; links = map (link_part net.points) net.links; delay = net.delay }
 
@@ -55,12 +57,13 @@ abbrev pub part_with_most : ℤ → Part → Part
 part_with_most most (part.Bound name from to old) = part.Bound name from to most
 part_with_most most other = other
 
+-- the part with another interval
 abbrev pub part_with_interval : ℤ → ℤ → Part → Part
 part_with_interval low high (part.Link from old_low old_high to) = part.Link from low high to
 part_with_interval low high other = other
 
--- the effect of an edit, by names: what is added comes last; of what is dropped nothing is left; where a number or an interval
--- is set, that is all that changes; and all else keeps its name, its ends, its numbers and its order
+-- the effect of an edit, by names: what is added comes last; of what is dropped nothing is left; if a number or an interval is set, that is all that changes;
+-- and all else keeps its name, its ends, its numbers and its order
 abbrev pub effect : Edit → ByNames → ByNames
 effect (edits.AddPoint name) it = record it { points = it.points ++ name ∷ [] }
 effect (edits.DropPoint name) it = record it { points = filter (λ other. not (bytes_eq name other)) it.points }

@@ -1,4 +1,4 @@
--- What holds of the rules.
+-- A law about the rules.
 use Rattle.std.specs.Prelude.{List}
 use Rattle.net_model.specs.Network.{Plan}
 use Rattle.net_model.specs.Edges.{IsEdge}
@@ -7,7 +7,7 @@ use Rattle.net_model.specs.LooseRules.{FollowsLoosely}
 use Rattle.net_model.specs.declared.part.Edge.{Edge}
 use Rattle.std.specs.List.{AllByRecursion}
 
--- whatever an exact rule gives from edges of the network, a certificate may state
+-- a certificate may state every edge that an exact rule derives from edges of the network
 abbrev pub ExactMayBeStated : Type 0
 ExactMayBeStated =
     (net : Plan) (earlier : List Edge) (edge : Edge) → AllByRecursion (IsEdge net) earlier → exact.Follows net earlier edge → FollowsLoosely net earlier edge

@@ -2,7 +2,7 @@
 use Rattle.std.specs.Prelude.{ℕ, ◌==◌, List, [], ◌∷◌, length, Option, None, Some, Result, Ok, Err, if◌then◌else◌}
 use Rattle.net_model.specs.Numbers.{name_of, short_name_of, natural_of, integer_of}
 use Rattle.net_model.specs.Places.{Place, of_name, of_short_name, of_natural, of_integer, Value, Maker, Form}
-use Rattle.net_model.specs.Reading.{◌>>=◌}
+use Rattle.net_model.specs.WordReading.{◌>>=◌}
 use Rattle.net_model.specs.declared.format.FormatKind.{FormatKind}
 use Rattle.net_model.specs.declared.format.FormatKind.TheVariants.{UnknownWord, WordCount}
 
@@ -31,7 +31,7 @@ read_by form words = do
   said ← counted (length form.places) words
   words_at form.places form.make said
 
--- the same where a line may begin so, or none does
+-- the same, if there is such a form; if not, the first word is unknown
 abbrev pub read_as : {A : Type 0} → Option (Form A) → List (List ℕ) → Result A FormatKind
 read_as None words = Err UnknownWord
 read_as (Some form) words = read_by form words

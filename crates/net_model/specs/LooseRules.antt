@@ -1,6 +1,7 @@
--- What the line of a certificate may state by a rule of the labelled distance graph (Morris and Muscettola 2005, in this
--- project's form): a relation between premises and conclusion that is looser than the exact rules. The weight may lie above
--- what the rule gives, and no-case and upper-case ask for no sign and give the plain sum.
+-- What the line of a certificate may state by a rule of the labelled distance graph (Morris and Muscettola 2005, in this project's form): a
+-- relation between premises and conclusion that is looser than the exact rules. The weight may lie above what the rule gives, and no-case
+-- and upper-case require no sign and give the plain sum. There are two forms since whoever writes a certificate may round up, and join
+-- edges in any order, and what is stated is still true; whatever an exact rule gives may be stated (the law `law_exact_may_be_stated`).
 use Rattle.std.specs.Prelude.{◌≡◌, ◌≢◌, ℕ, pos, ◌+ℤ◌, ◌-ℤ◌, ◌≤ℤ◌, ◌<ℤ◌, List, Some, None, slice_get, take}
 use Rattle.std.specs.List.{Contains}
 use Rattle.net_model.specs.Network.{Plan}
@@ -98,7 +99,8 @@ pub data FollowsLoosely (net : Plan) (earlier : List Edge) (edge : Edge) : Type 
   by_bound : IsLooseBound net edge → FollowsLoosely net earlier edge
   by_link : IsLooseLink net edge → FollowsLoosely net earlier edge
   by_no_case : (first second : Edge) → Contains earlier first → Contains earlier second → IsLooseNoCase first second edge → FollowsLoosely net earlier edge
-  by_upper_case : (first second : Edge) → Contains earlier first → Contains earlier second → IsLooseUpperCase first second edge → FollowsLoosely net earlier edge
+  by_upper_case : (first second : Edge) → Contains earlier first → Contains earlier second → IsLooseUpperCase first second edge
+      → FollowsLoosely net earlier edge
   by_lower_case : (second : Edge) → Contains earlier second → IsLooseLowerCase net second edge → FollowsLoosely net earlier edge
   by_cross_case : (second : Edge) → Contains earlier second → IsLooseCrossCase net second edge → FollowsLoosely net earlier edge
   by_removal : (premise : Edge) → Contains earlier premise → IsLooseRemoval net premise edge → FollowsLoosely net earlier edge

@@ -3,7 +3,7 @@ use Rattle.std.specs.Prelude.{ℕ, List, Option, None}
 use Rattle.std.specs.List.{slice_index_or}
 use Rattle.net_model.specs.declared.ids.PointId.{PointId}
 
--- for each point a moment, where it has one, in the order of the points
+-- for each point a moment, if it has one, in the order of the points
 abbrev pub Moments : Type 0
 Moments = List (Option ℕ)
 

@@ -1,4 +1,4 @@
--- The order of names is total, and no two names stand beside each other in it.
+-- The order of names is total, and only equal names compare as equal.
 use Rattle.std.proofs.Common.{◌≡◌, ◌≢◌, ◌∙◌, ℕ, Bool, true, false, List, length, Some, refl, ap, sym}
 use mathlib.Core.Bool.{true≢false}
 use Rattle.std.specs.Cmp.{IsTotalOrder, IsPartialOrder, partial_order_from_total, partial_order_from_own_ties, nat_cmp_total, on_total, then_total, tied_itself}

@@ -26,7 +26,7 @@ is_name (b ∷ bs) = is_letter b && list_all is_name_byte bs && nat_lt (length b
 abbrev pub most_short : ℕ
 most_short = 28
 
--- a name of at most so many bytes
+-- a short name: a name of at most so many bytes
 abbrev pub is_short_name : List ℕ → Bool
 is_short_name word = is_name word && nat_le (length word) most_short
 

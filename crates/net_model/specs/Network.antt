@@ -1,5 +1,6 @@
 -- Temporal networks with uncertainty (Morris, Muscettola and Vidal 2001), in whole moments.
-use Rattle.std.specs.Prelude.{◌≡◌, ◌≢◌, ℕ, ◌<◌, ◌≤◌, ◌==◌, true, List, [], length, map, filter, fold, max, Option, IsTrue, IsSome, IsNone, pos, ◌≤ℤ◌, ◌+◌, unsigned_abs}
+use Rattle.std.specs.Prelude.{◌≡◌, ◌≢◌, ℕ, ◌<◌, ◌≤◌, ◌==◌, true, List, [], length, map, filter, fold, max, Option, IsTrue, IsSome, IsNone, pos, ◌≤ℤ◌, ◌+◌}
+use Rattle.std.specs.Prelude.{unsigned_abs}
 use Rattle.std.specs.Option.{option_map, option_and_then}
 use Rattle.std.specs.List.{All, AllPairs, IsDistinct, position, enumerate_from}
 use Rattle.std.specs.Str.{bytes_eq}
@@ -35,6 +36,7 @@ activation net point = option_map (λ k. record { 0 = k }) (position (λ (l : Li
 abbrev pub link_named : Plan → List ℕ → Option LinkId
 link_named net name = option_and_then (activation net) (point_named net name)
 
+-- the number of a point of the network
 abbrev pub IsPoint : Plan → PointId → Type 0
 IsPoint net point = point.0 < length net.points
 
@@ -88,9 +90,10 @@ pub record HasPlanNumbers (net : Plan) : Type 0 where
 abbrev pub links_from : Plan → PointId → List LinkId
 links_from net point = map (λ (l : ℕ × Link). record { 0 = l.0 }) (filter (λ (l : ℕ × Link). l.1.from.0 == point.0) (enumerate_from 0 net.links))
 
--- the greatest size of a number, or 0 where there is none
+-- the greatest size of a number, or 0 if there is none
 abbrev pub greatest : Plan → ℕ
-greatest net = max (fold (λ most (b : Bound). max most (unsigned_abs b.most)) 0 net.bounds) (fold (λ most (l : Link). max most (unsigned_abs l.high)) 0 net.links)
+greatest net = max (fold (λ most (b : Bound). max most (unsigned_abs b.most)) 0 net.bounds)
+    (fold (λ most (l : Link). max most (unsigned_abs l.high)) 0 net.links)
 
 -- the network without points, with a delay of 0
 abbrev pub empty : Plan

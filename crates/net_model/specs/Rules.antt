@@ -1,6 +1,7 @@
--- The reductions of the labelled distance graph (Morris and Muscettola 2005, in this project's exact form): each a function
--- from its premises to its conclusion, where it applies. The edges of bounds and links are the ones to begin with.
-use Rattle.std.specs.Prelude.{◌≡◌, ◌==◌, ◌&&◌, not, ℕ, ℤ, pos, ◌+ℤ◌, ◌-ℤ◌, int_lt, Bool, false, List, Option, Some, None, is_some, is_none, slice_get, take, if◌then◌else◌}
+-- The reductions of the labelled distance graph (Morris and Muscettola 2005, in this project's exact form): each a function from its premises to its
+-- conclusion, if it applies. The edges of bounds and links are the ones to begin with.
+use Rattle.std.specs.Prelude.{◌≡◌, ◌==◌, ◌&&◌, not, ℕ, ℤ, pos, ◌+ℤ◌, ◌-ℤ◌, int_lt, Bool, false, List, Option, Some, None, is_some, is_none, slice_get, take}
+use Rattle.std.specs.Prelude.{if◌then◌else◌}
 use Rattle.std.specs.Int.{int_max}
 use Rattle.std.specs.Option.{option_and_then, option_map_or}
 use Rattle.std.specs.List.{Contains}
@@ -39,7 +40,7 @@ meet first second = first.to.0 == second.from.0
 abbrev pub is_negative : Edge → Bool
 is_negative edge = int_lt edge.weight (pos 0)
 
--- the weight of two edges in a row, of which the first counts as 0 where it is below
+-- the weight of two edges in a row, of which the first counts as 0 if it is below
 abbrev pub joined_weight : Edge → Edge → ℤ
 joined_weight first second = int_max first.weight (pos 0) +ℤ second.weight
 
@@ -68,18 +69,21 @@ moved_to_activation link second = record { from = link.from; to = second.to; lab
 -- lower-case: a link from A to C of at least x, and C to Z of u < 0, give A to Z of x + u
 unfoldable pub lower_case : Plan → LinkId → Edge → Option Edge
 lower_case net name second =
-    option_and_then (λ link. if is_ordinary second && goes_on_from link second then Some (moved_to_activation link second) else None) (slice_get net.links name.0)
+    option_and_then (λ link. if is_ordinary second && goes_on_from link second then Some (moved_to_activation link second) else None)
+    (slice_get net.links name.0)
 
 -- cross-case: a link from A to C of at least x, and C to D of u < 0, labelled by another link B, give A to D of x + u,
 -- labelled B
 unfoldable pub cross_case : Plan → LinkId → Edge → Option Edge
 cross_case net name second =
-    option_and_then (λ link. if is_labelled second && not (is_labelled_by name second) && goes_on_from link second then Some (moved_to_activation link second) else None) (slice_get net.links name.0)
+    option_and_then (λ link. if is_labelled second && not (is_labelled_by name second) && goes_on_from link second then Some (moved_to_activation link second)
+    else None) (slice_get net.links name.0)
 
 -- removal: X to A of z, labelled by a link from A of at least x, gives X to A of max(z, -x)
 unfoldable pub removal : Plan → Edge → Option Edge
 removal net premise =
-    option_and_then (λ name. option_and_then (λ link. Some (record premise { label = None; weight = int_max premise.weight (pos 0 -ℤ link.low) })) (slice_get net.links name.0)) premise.label
+    option_and_then (λ name. option_and_then (λ link. Some (record premise { label = None; weight = int_max premise.weight (pos 0 -ℤ link.low) }))
+    (slice_get net.links name.0)) premise.label
 
 -- an edge follows from edges of a list by one rule
 pub data Follows (net : Plan) (earlier : List Edge) (edge : Edge) : Type 0 where

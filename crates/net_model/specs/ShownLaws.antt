@@ -1,4 +1,4 @@
--- What holds of the shown form.
+-- Laws about the shown form.
 use Rattle.std.specs.Prelude.{◌≡◌, ◌≤◌, ◌+◌}
 use Rattle.net_model.specs.Network.{Plan, IsPlan, greatest}
 use Rattle.net_model.specs.ShownForm.{shown_form}

@@ -9,11 +9,13 @@ use crate::ids::Weight;
 use crate::name::Name;
 use crate::part::Part;
 
-/// The greatest number of bytes of the name under which two bounds are declared that belong together.
+/// The greatest number of bytes of the name under which two bounds are declared that belong
+/// together.
 pub const MOST_SHORT: usize = 28;
 
-/// The two bounds of `low <= to - from <= high`, in whole moments: `NAME.max`, that `to - from` is at most `high`, and `NAME.min`, that
-/// `from - to` is at most `-low`. The name has at most `MOST_SHORT` bytes.
+/// The two bounds of `low <= to - from <= high`, in whole moments: `NAME.max`, that `to - from` is
+/// at most `high`, and `NAME.min`, that `from - to` is at most `-low`. The name has at most
+/// `MOST_SHORT` bytes. It takes no memory.
 pub fn between_parts(name: &Name, from: Name, low: Weight, high: Weight, to: Name) -> (Part, Part)
     requires short { length name.now ≤ most_short }
     requires within { within_limit low ≡ true }

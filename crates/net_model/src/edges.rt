@@ -7,7 +7,8 @@ ghost use Rattle.net_model.specs.Rules.{bound_edge, link_edge};
 use crate::ids::LinkId;
 use crate::part::{Bound, Edge, Link};
 
-/// The edge of a bound.
+/// The edge of a bound: from its `from` to its `to`, without a label, of its number. It takes no
+/// memory.
 pub fn bound_edge(bound: &Bound) -> Edge
     ensures { result ≡ bound_edge bound.now }
 {
@@ -19,7 +20,8 @@ pub fn bound_edge(bound: &Bound) -> Edge
     }
 }
 
-/// The edge of a link, which has this number.
+/// The upper-case edge of a link, which has this number: from its contingent point to its
+/// activation point, labelled by the link, of minus its longest duration. It takes no memory.
 pub fn link_edge(name: LinkId, link: &Link) -> Edge
     requires { IsWeight (pos 0 -ℤ link.now.high) }
     ensures { result ≡ link_edge name link.now }

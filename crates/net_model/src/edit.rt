@@ -1,3 +1,5 @@
+//! Edits of a network, by names, and why one is refused.
+
 use crate::ids::{BoundId, LinkId, Weight};
 use crate::name::Name;
 use crate::part::Which;
@@ -5,29 +7,30 @@ use std::alloc::AllocError;
 use std::error::Error;
 use std::fmt;
 
-/// An edit of a network, by names, with numbers in whole moments. A link is named by its contingent point. What is
-/// added goes to the end of its list, a list closes up over what is dropped, and what is set keeps its place.
+/// An edit of a network, by names, with numbers in whole moments. A link is named by its contingent
+/// point. What is added goes to the end of its list, a list closes up over what is dropped, and
+/// what is set keeps its place.
 #[derive(Clone, Copy, Debug)]
 pub enum Edit {
     /// One more point, of this name.
     AddPoint(Name),
-    /// The point of this name goes.
+    /// The point of this name is dropped.
     DropPoint(Name),
     /// One more bound: its name, from, to, and the most that `to - from` may be.
     AddBound(Name, Name, Name, Weight),
-    /// The bound of this name goes.
+    /// The bound of this name is dropped.
     DropBound(Name),
     /// The bound of this name gets this number.
     SetBound(Name, Weight),
     /// One more link: from, its shortest and its longest duration, to.
     AddLink(Name, Weight, Weight, Name),
-    /// The link that ends in the point of this name goes.
+    /// The link that ends in the point of this name is dropped.
     DropLink(Name),
     /// The link that ends in the point of this name gets this shortest and this longest duration.
     SetLink(Name, Weight, Weight),
 }
 
-/// What uses a point: the first bound in order that names it, or where no bound does the first link.
+/// What uses a point: the first bound in order that names it, or, if no bound does, the first link.
 #[derive(Clone, Copy, Debug, PartialEq, Eq)]
 pub enum User {
     Bound(BoundId),
@@ -39,7 +42,8 @@ pub enum User {
 pub enum EditFault {
     /// The name of a new point is a point already, or that of a new bound a bound.
     DuplicateName,
-    /// The edit names a point or a bound that the network does not have, or a point in which no link ends as a link.
+    /// The edit names a point or a bound that the network does not have, or a point in which no
+    /// link ends as a link.
     UnknownName,
     /// A link ends already in the point in which the new one ends.
     TwoLinksOnPoint,
@@ -49,7 +53,7 @@ pub enum EditFault {
     BadInterval,
     /// The edit passes a limit.
     Limit(Which),
-    /// The point that is to go is still used.
+    /// The point that is to be dropped is still used.
     StillUsed(User),
     /// There was no memory.
     OutOfMemory,
@@ -57,7 +61,7 @@ pub enum EditFault {
 
 impl EditFault {
     ghost use Rattle.std.specs.Prelude.{◌≡◌};
-    ghost use Rattle.net_model.specs.Editing.{fault_word};
+    ghost use Rattle.net_model.specs.EditedNetwork.{fault_word};
 
     /// The word as which it is printed.
     pub fn word(self) -> &'static str
@@ -78,7 +82,7 @@ impl EditFault {
 
 impl fmt::Display for EditFault {
     ghost use Rattle.std.specs.Prelude.{Some};
-    ghost use Rattle.net_model.specs.Editing.{fault_word};
+    ghost use Rattle.net_model.specs.EditedNetwork.{fault_word};
 
     ghost output = { λ fault. Some (fault_word fault) };
 

@@ -1,3 +1,5 @@
+//! Why a part is refused, or a list of parts builds no network.
+
 use crate::edit::EditFault;
 use crate::part::Which;
 use std::alloc::AllocError;
@@ -16,7 +18,8 @@ pub(crate) enum PartFault {
     OutOfMemory,
 }
 
-/// Why a list of parts builds no network. Each fault but want of memory has the place of the first bad part, from 1.
+/// Why a list of parts builds no network. Each fault but want of memory has the place of the first
+/// bad part, from 1.
 #[derive(Clone, Copy, Debug, PartialEq, Eq, Hash)]
 pub enum BuildFault {
     /// The name of a point is a point already, or that of a bound a bound.
@@ -37,11 +40,11 @@ pub enum BuildFault {
 
 impl BuildFault {
     ghost use Rattle.std.specs.Prelude.{◌≡◌};
-    ghost use Rattle.net_model.specs.Building.{place_of, word_of};
+    ghost use Rattle.net_model.specs.BuiltNetwork.{place_of, build_fault_word};
 
     /// The word as which it is printed.
     pub fn word(self) -> &'static str
-        ensures { result.now ≡ word_of self }
+        ensures { result.now ≡ build_fault_word self }
     {
         match self {
             BuildFault::DuplicateName(_) => "duplicate-name",
@@ -54,7 +57,7 @@ impl BuildFault {
         }
     }
 
-    /// The place of the part that is refused, from 1, or `None` exactly where there was no memory.
+    /// The place of the part that is refused, from 1, or `None` exactly if there was no memory.
     pub fn place(self) -> Option<u32>
         ensures { result ≡ place_of self }
     {
@@ -72,9 +75,9 @@ impl BuildFault {
 
 impl fmt::Display for BuildFault {
     ghost use Rattle.std.specs.Prelude.{Some};
-    ghost use Rattle.net_model.specs.Building.{word_of};
+    ghost use Rattle.net_model.specs.BuiltNetwork.{build_fault_word};
 
-    ghost output = { λ fault. Some (word_of fault) };
+    ghost output = { λ fault. Some (build_fault_word fault) };
 
     fn fmt<W: fmt::Write>(&self, f: &mut fmt::Formatter<W>) -> fmt::Result {
         f.write_str(self.word())
@@ -107,8 +110,8 @@ impl From<AllocError> for PartFault {
 
 impl PartFault {
     ghost use Rattle.std.specs.Prelude.{◌≡◌};
-    ghost use Rattle.net_model.specs.Building.{at_place};
-    ghost use Rattle.net_model.specs.Editing.{cause_of};
+    ghost use Rattle.net_model.specs.BuiltNetwork.{at_place};
+    ghost use Rattle.net_model.specs.EditedNetwork.{cause_of};
 
     /// The fault of the part at a place.
     pub(crate) fn at(self, place: u32) -> BuildFault

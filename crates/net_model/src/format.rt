@@ -1,3 +1,5 @@
+//! Why a line or a text is not read.
+
 use std::alloc::AllocError;
 use std::error::Error;
 use std::fmt;
@@ -57,7 +59,8 @@ impl fmt::Display for FormatKind {
 
 impl Error for FormatKind {}
 
-/// The first fault of a text: the number of its line, from 1, and why.
+/// The first fault of a text: the number of its line, from 1, and why. It is displayed as the word
+/// of its kind, `in line`, and its line.
 #[derive(Clone, Copy, Debug)]
 pub struct FormatFault {
     pub line: u32,
@@ -77,7 +80,7 @@ impl fmt::Display for FormatFault {
 
 impl Error for FormatFault {}
 
-/// Why a text was not read.
+/// Why a text was not read. It is displayed as its fault is, or as `out of memory`.
 #[derive(Clone, Copy, Debug)]
 pub enum TextFault {
     /// It is no such text: its first fault.
@@ -124,7 +127,7 @@ impl From<AllocError> for TextFault {
     }
 }
 
-/// Why a line was not read.
+/// Why a line was not read. It is displayed as the word of its kind, or as `out of memory`.
 #[derive(Clone, Copy, Debug)]
 pub enum WordFault {
     /// It is no line of the text.

@@ -1,3 +1,5 @@
+//! The numbers of points, links and bounds, and the weight of a bound.
+
 /// A number of a bound: a difference of two moments, in whole moments.
 pub type Weight = i64;
 

@@ -1,13 +1,13 @@
-//! Temporal networks with uncertainty: names, points, bounds, links, and what a list of parts builds.
+//! Temporal networks with uncertainty: names, points, bounds, links, and what a list of parts
+//! builds.
 #![tactic(auto)]
 
-mod applying;
 mod between;
-mod declaring;
+mod declarations;
 mod edges;
 mod edit;
+mod edited_network;
 mod fault;
-mod filling;
 mod format;
 mod ids;
 mod items;
@@ -16,8 +16,9 @@ mod limits;
 mod name;
 mod name_index;
 mod network;
+mod network_lists;
 mod part;
-mod shown;
+mod shown_form;
 pub mod text;
 
 pub use between::{MOST_SHORT, between_parts};
@@ -29,7 +30,7 @@ pub use ids::{BoundId, LinkId, PointId, Weight};
 pub use items::Items;
 pub use limits::{
     MOST_BOUNDS, MOST_DELAY, MOST_LINES, MOST_LINKS, MOST_MOMENT, MOST_NUMBER, MOST_POINTS,
-    MOST_WEIGHT, counts_are_defined, limits_are_defined,
+    MOST_WEIGHT, law_counts_are_defined, law_limits_are_defined,
 };
 pub use name::{Name, NameFault};
 pub use network::Network;

@@ -1,7 +1,8 @@
 //! The greatest counts and sizes of a network.
 
 ghost use Rattle.std.specs.Prelude.{◌≡◌};
-ghost use Rattle.net_model.specs.Limits.{most_points, most_links, most_bounds, most_number, most_weight, most_moment, most_delay, most_lines};
+ghost use Rattle.net_model.specs.Limits.{most_points, most_links, most_bounds, most_number};
+ghost use Rattle.net_model.specs.Limits.{most_weight, most_moment, most_delay, most_lines};
 
 /// The greatest number of points of a network.
 pub const MOST_POINTS: usize = 2_000;
@@ -15,7 +16,8 @@ pub const MOST_BOUNDS: usize = 20_000;
 /// The greatest size of a number of a plan, in whole moments.
 pub const MOST_NUMBER: u64 = 1_000_000_000;
 
-/// The greatest size of the weight of an edge that is derived, judged or kept in a table, in whole moments.
+/// The greatest size of the weight of an edge that is derived, judged or kept in a table, in whole
+/// moments.
 pub const MOST_WEIGHT: u64 = 1_000_000_000_000;
 
 /// The greatest moment of an event, and of an execution.
@@ -28,7 +30,7 @@ pub const MOST_DELAY: u32 = 1_000_000;
 pub const MOST_LINES: u32 = 2_147_483_648;
 
 /// The limits of counts in the code are those of the definitions.
-pub fn counts_are_defined()
+pub fn law_counts_are_defined()
     ensures points { MOST_POINTS ≡ most_points }
     ensures links { MOST_LINKS ≡ most_links }
     ensures bounds { MOST_BOUNDS ≡ most_bounds }
@@ -36,7 +38,7 @@ pub fn counts_are_defined()
 {}
 
 /// The limits of numbers in the code are those of the definitions.
-pub fn limits_are_defined()
+pub fn law_limits_are_defined()
     ensures number { MOST_NUMBER ≡ most_number }
     ensures weight { MOST_WEIGHT ≡ most_weight }
     ensures moment { MOST_MOMENT ≡ most_moment }

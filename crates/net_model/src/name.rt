@@ -1,4 +1,7 @@
-ghost use Rattle.std.specs.Prelude.{◌≡◌, ◌<◌, ◌≤◌, ◌==◌, ◌+◌, ◌++◌, length, refl, Some, is_some, if◌then◌else◌, IsTrue, IfSome};
+//! The name of a point or of a bound.
+
+ghost use Rattle.std.specs.Prelude.{◌≡◌, ◌<◌, ◌≤◌, ◌==◌, ◌+◌, ◌++◌, length, refl, Some, is_some};
+ghost use Rattle.std.specs.Prelude.{if◌then◌else◌, IsTrue, IfSome};
 ghost use Rattle.std.specs.Cmp.Lexicographic.{pointwise};
 ghost use Rattle.std.specs.Cmp.Rules.{comparing, hashing};
 ghost use Rattle.std.specs.Hash as fed;
@@ -16,8 +19,10 @@ use std::marker::Model;
 /// The greatest number of bytes of a name.
 const LONGEST: usize = 32;
 
-/// The name of a point or of a bound: 1 to 32 bytes, each a letter of ASCII, a digit, `_`, `-` or `.`, and the first
-/// a letter. Contracts see it as the list of its bytes.
+/// The name of a point or of a bound: 1 to 32 bytes, each a letter of ASCII, a digit, `_`, `-` or
+/// `.`, and the first a letter. Contracts see it as the list of its bytes. Names are compared,
+/// hashed and printed as their bytes. A shorter name comes before a longer one, and names of one
+/// length come in the order of their bytes (`name_cmp`).
 #[derive(Clone, Copy, Debug)]
 pub struct Name {
     bytes: [u8; LONGEST],
@@ -32,7 +37,8 @@ impl Model for Name {
 
     ghost view = { λ n. take n.len n.bytes };
 
-    ghost invariant = { λ n. (length n.bytes ≡ 32) × (n.len ≤ 32) × (n.bytes ≡ padded (take n.len n.bytes)) × IsTrue (is_name (take n.len n.bytes)) };
+    ghost invariant = { λ n. (length n.bytes ≡ 32) × (n.len ≤ 32)
+        × (n.bytes ≡ padded (take n.len n.bytes)) × IsTrue (is_name (take n.len n.bytes)) };
 
     ghost inverse = { λ text. record { bytes = padded text; len = length text } };
 }
@@ -101,14 +107,14 @@ fn padded(text: &[u8]) -> [u8; LONGEST]
 }
 
 impl Name {
-    /// The name that a text is, or `Bad` exactly where it is none. It takes no memory.
+    /// The name that a text is, or `Bad` exactly if it is none. It takes no memory.
     pub fn new(text: &[u8]) -> Result<Name, NameFault>
         ensures { result ≡ (if is_name text.now then Ok text.now else Err NameFault.Bad) }
     {
         Name::from_text(text).ok_or(NameFault::Bad)
     }
 
-    /// The name that a text is, or `None` exactly where the text is not a name.
+    /// The name that a text is, or `None` exactly if the text is not a name.
     pub(crate) fn from_text(text: &[u8]) -> Option<Name>
         ensures name { IfSome result (λ name. name ≡ text.now) }
         ensures variant { is_some result ≡ is_name text.now }
@@ -137,7 +143,7 @@ impl Name {
         }
     }
 
-    /// Every name is one. This does nothing: a body calls it where its proof needs the law.
+    /// Every name is one. This does nothing: a body calls it if its proof needs the law.
     pub fn sound(&self)
         ensures { IsTrue (is_name self.now) }
     {
@@ -188,8 +194,8 @@ impl PartialOrd for Name {
     }
 }
 
-/// Short names come first, and names of one length in the order of their bytes. So names that end in growing numbers are in order
-/// as they are declared.
+/// Short names come first, and names of one length in the order of their bytes. So names that end
+/// in growing numbers are in order as they are declared.
 impl Ord for Name {
     ghost cmp = { name_cmp };
 

@@ -1,30 +1,40 @@
-ghost use Rattle.std.specs.Prelude.{◌≡◌, ◌<◌, ◌^◌, ◌↔◌, ◌==◌, ◌≤◌, [], ◌∷◌, ◌++◌, length, fold, map, filter, max, unsigned_abs, pos, ◌≤ℤ◌, IfOk, IsTrue, MatchResult};
-ghost use Rattle.std.specs.List.{enumerate_from};
-ghost use Rattle.net_model.specs.Network.{IsPlan, IsPoint, IsContingent, IsBound, IsLink, point_named, bound_named, activation, links_from, greatest, empty, HasPlanNumbers};
-ghost use Rattle.net_model.specs.NetworkParts.{point_name};
-ghost use Rattle.net_model.specs.Limits.{most_points, most_links, most_bounds, most_delay, within_limit};
-ghost use Rattle.net_model.specs.Building.{Builds, Adds, Pushes, built, with_part, with_point, with_bound, with_link, with_link_between, with_parts, named};
+//! A temporal network with uncertainty: its three lists and its delay, and what they contain.
 
-use crate::declaring::Declared;
+ghost use Rattle.std.specs.Prelude.{◌≡◌, ◌<◌, ◌^◌, ◌↔◌, ◌==◌, ◌≤◌, [], ◌∷◌, ◌++◌, length, fold};
+ghost use Rattle.std.specs.Prelude.{map, filter, max, unsigned_abs, pos, ◌≤ℤ◌, IfOk, IsTrue};
+ghost use Rattle.std.specs.Prelude.{MatchResult};
+ghost use Rattle.std.specs.List.{enumerate_from};
+ghost use Rattle.net_model.specs.Network.{IsPlan, IsPoint, IsContingent, IsBound, IsLink};
+ghost use Rattle.net_model.specs.Network.{point_named, bound_named, activation, links_from};
+ghost use Rattle.net_model.specs.Network.{greatest, empty, HasPlanNumbers};
+ghost use Rattle.net_model.specs.NetworkParts.{point_name};
+ghost use Rattle.net_model.specs.Limits.{most_points, most_links, most_bounds, most_delay};
+ghost use Rattle.net_model.specs.Limits.{within_limit};
+ghost use Rattle.net_model.specs.BuiltNetwork.{Builds, Adds, Pushes, built, with_part, with_point};
+ghost use Rattle.net_model.specs.BuiltNetwork.{with_bound, with_link, with_link_between};
+ghost use Rattle.net_model.specs.BuiltNetwork.{with_parts, named};
+
+use crate::declarations::Declared;
 use crate::fault::BuildFault;
 use crate::ids::{BoundId, LinkId, PointId, Weight};
 use crate::limits::MOST_NUMBER;
 use crate::name::Name;
-use crate::name_index::place_of;
+use crate::name_index::{KeyedPlace, place_of};
 use crate::part::{Bound, Link, Part};
 use std::alloc::{AllocError, Global};
 use std::marker::Model;
 
-/// A temporal network with uncertainty (Morris, Muscettola and Vidal 2001): points, bounds `to - from <= most`, and
-/// contingent links, each list in the order of declaration, and a delay, how many moments after it happened a completion is
-/// shown. Contracts see it as its three lists and its delay.
+/// A temporal network with uncertainty (Morris, Muscettola and Vidal 2001): points, bounds `to -
+/// from <= most`, and contingent links, each list in the order of declaration, and a delay, how
+/// many moments after it happened a completion is shown. Contracts see it as its three lists and
+/// its delay. Its calls take no memory unless their answer may be a fault.
 #[derive(Debug, Drop)]
 pub struct Network {
     pub(crate) points: Vec<Name>,
     pub(crate) bounds: Vec<Bound>,
     pub(crate) links: Vec<Link>,
-    pub(crate) point_index: Vec<u32>,
-    pub(crate) bound_index: Vec<u32>,
+    pub(crate) point_index: Vec<KeyedPlace>,
+    pub(crate) bound_index: Vec<KeyedPlace>,
     pub(crate) ending: Vec<Option<LinkId>>,
     pub(crate) delay: u32,
 }
@@ -34,7 +44,7 @@ impl Model for Network {
 
     ghost Value = { Plan };
 
-    ghost use Rattle.net_model.specs.Stored.{plan_of, IsStored};
+    ghost use Rattle.net_model.specs.StoredNetwork.{plan_of, IsStored};
 
     ghost view = { plan_of };
 
@@ -42,13 +52,14 @@ impl Model for Network {
 }
 
 impl Network {
-    /// The network that a list of parts declares, in their order, or the first part that is refused; its delay is 0. The
-    /// refusals of a part are tried in this order. A point: `DuplicateName`, `Limit(Points)`. A bound: `DuplicateName`,
-    /// `UnknownName` of its from and then of its to, `Limit(Number)`, `Limit(Bounds)`. A link: `UnknownName` of its
-    /// from and then of its to, `LinkToItself`, `TwoLinksOnPoint`, `BadInterval`, `Limit(Number)` of its longest
-    /// duration, `Limit(Links)`. A limit on a count comes exactly where the list already has its greatest length. The
-    /// fault has the place of the part, from 1; there are fewer than 2^32. `OutOfMemory` comes only for want of memory,
-    /// and then nothing was made.
+    /// The network that a list of parts declares, in their order, or the first part that is
+    /// refused; its delay is 0. The refusals of a part are tried in this order. A point:
+    /// `DuplicateName`, `Limit(Points)`. A bound: `DuplicateName`, `UnknownName` of its from and
+    /// then of its to, `Limit(Number)`, `Limit(Bounds)`. A link: `UnknownName` of its from and then
+    /// of its to, `LinkToItself`, `TwoLinksOnPoint`, `BadInterval`, `Limit(Number)` of its longest
+    /// duration, `Limit(Links)`. A limit on a count comes exactly if the list already has its
+    /// greatest length. The fault has the place of the part, from 1; there are fewer than 2^32.
+    /// `OutOfMemory` comes only for want of memory, and then nothing was made.
     pub fn build(alloc: Global, parts: &[Part]) -> Result<Network, BuildFault>
         requires { length parts.now < 2 ^ 32 }
         ensures built { Builds result (built parts.now) }
@@ -63,7 +74,7 @@ impl Network {
         Ok(net)
     }
 
-    /// Every network is sound. This does nothing: a body calls it where its proof needs the law.
+    /// Every network is sound. This does nothing: a body calls it if its proof needs the law.
     pub fn sound(&self)
         ensures { IsPlan self.now }
     {
@@ -110,8 +121,8 @@ impl Network {
         Weight::from(self.delay)
     }
 
-    /// The same network with a delay of so many moments, 0 to `MOST_DELAY`; its numbers are at most `MOST_NUMBER` in size, as
-    /// those of a built network are. It takes no memory.
+    /// The same network with a delay of so many moments, 0 to `MOST_DELAY`; its numbers are at most
+    /// `MOST_NUMBER` in size, as those of a built network are. It takes no memory.
     pub fn with_delay(mut self, moments: Weight) -> Network
         requires from_nought { pos 0 ≤ℤ moments }
         requires short { moments ≤ℤ pos most_delay }
@@ -123,7 +134,7 @@ impl Network {
         self
     }
 
-    /// The point of a name, or `None` exactly where no point has it.
+    /// The point of a name, or `None` exactly if no point has it.
     pub fn point(&self, name: &[u8]) -> Option<PointId>
         ensures { result ≡ point_named self.now name.now }
     {
@@ -132,7 +143,7 @@ impl Network {
         self.named_point(&name)
     }
 
-    /// The bound of a name, or `None` exactly where no bound has it.
+    /// The bound of a name, or `None` exactly if no bound has it.
     pub fn bound(&self, name: &[u8]) -> Option<BoundId>
         ensures { result ≡ bound_named self.now name.now }
     {
@@ -141,7 +152,7 @@ impl Network {
         self.named_bound(&name)
     }
 
-    /// The link that ends in a point of the network, or `None` exactly where none does.
+    /// The link that ends in a point of the network, or `None` exactly if none does.
     pub fn activation(&self, point: PointId) -> Option<LinkId>
         requires { IsPoint self.now point }
         ensures { result ≡ activation self.now point }
@@ -157,7 +168,7 @@ impl Network {
         self.activation(point).is_some()
     }
 
-    /// The greatest size of a number of the network, in whole moments, or 0 where it has none.
+    /// The greatest size of a number of the network, in whole moments, or 0 if it has none.
     pub fn greatest(&self) -> Weight
         ensures { result ≡ pos (greatest self.now) }
     {
@@ -166,7 +177,8 @@ impl Network {
         bounds.max(links) as i64
     }
 
-    /// The links that begin in a point of the network, in order. `AllocError` comes only for want of memory.
+    /// The links that begin in a point of the network, in order. `AllocError` comes only for want
+    /// of memory.
     pub fn links_from(&self, alloc: Global, point: PointId) -> Result<Vec<LinkId>, AllocError>
         requires { IsPoint self.now point }
         ensures { IfOk result (λ links. links.items ≡ links_from self.now point) }
@@ -213,7 +225,8 @@ fn greatest_link(links: &[Link]) -> u64
 
 fn links_from(alloc: Global, links: &[Link], point: PointId) -> Result<Vec<LinkId>, AllocError>
     requires { length links.now ≤ most_links }
-    ensures { IfOk result (λ found. found.items ≡ map (λ l. record { 0 = l.0 }) (filter (λ l. l.1.from.0 == point.0) (enumerate_from 0 links.now))) }
+    ensures { IfOk result (λ found. found.items ≡ map (λ l. record { 0 = l.0 })
+        (filter (λ l. l.1.from.0 == point.0) (enumerate_from 0 links.now))) }
 {
     let mut found = Vec::new(alloc);
     for (place, link) in links.iter().enumerate() {

@@ -1,3 +1,5 @@
+//! Bounds, links, labelled edges, and the parts that declare a network.
+
 use crate::ids::{LinkId, PointId, Weight};
 use crate::name::Name;
 
@@ -21,8 +23,8 @@ impl Bound {
     }
 }
 
-/// A contingent link: nature picks `to - from`, a whole number from `low` to `high`. `from` is the activation point
-/// and `to` the contingent point.
+/// A contingent link: nature picks `to - from`, a whole number from `low` to `high`. `from` is the
+/// activation point and `to` the contingent point.
 #[derive(Clone, Copy, Debug, PartialEq, Eq)]
 pub struct Link {
     pub from: PointId,
@@ -42,8 +44,8 @@ impl Link {
     }
 }
 
-/// An edge of the labelled distance graph (Morris and Muscettola 2005): `to - from <= weight`, where it has a label
-/// only as long as that link takes its longest duration.
+/// An edge of the labelled distance graph (Morris and Muscettola 2005): `to - from <= weight`, and
+/// with a label only while that link takes its longest duration.
 #[derive(Clone, Copy, Debug, PartialEq, Eq)]
 pub struct Edge {
     pub from: PointId,
@@ -78,7 +80,7 @@ pub enum Which {
 
 impl Which {
     ghost use Rattle.std.specs.Prelude.{◌≡◌};
-    ghost use Rattle.net_model.specs.Building.{which_word};
+    ghost use Rattle.net_model.specs.BuiltNetwork.{which_word};
 
     /// The word as which it is printed.
     pub fn word(self) -> &'static str

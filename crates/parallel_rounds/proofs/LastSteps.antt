@@ -1,4 +1,4 @@
--- What is told after a round.
+-- What is known after a round.
 use Rattle.std.proofs.Common.{◌≡◌, ◌==◌, ℕ, ◌<◌, Bool, true, false, not, List, [], ◌∷◌, length, nat_lt, refl, ap, sym, subst, ◌∙◌, arith, get_or, take, fold, ◌+◌, ◌++◌, ◌≤◌, map}
 use Rattle.std.specs.Prelude.{filter, slice_get, Some}
 use Rattle.std.specs.List.{All, AllPairs, Contains}
@@ -14,26 +14,26 @@ use Rattle.net_model.specs.Network.{Plan, IsPlan, IsPoint}
 use Rattle.net_model.specs.declared.ids.PointId.{PointId}
 use Rattle.net_model.specs.declared.part.Edge.{Edge}
 use Rattle.closure_model.specs.Derivations.{Support, StandsOn}
-use Rattle.closure_model.specs.FreshEdges.{fresh_at, IsMetBut, AreOfTable}
+use Rattle.closure_model.specs.DeltaEdges.{delta_at, IsSaturatedBut, AreOfTable}
 use Rattle.closure_model.specs.Keys.{Shape}
-use Rattle.closure_model.specs.Orders.{is_among, IsOrder}
+use Rattle.closure_model.specs.Orders.{contains_point, IsOrder}
 use Rattle.closure_model.specs.ReferenceRow.{reference_row, with_made}
 use Rattle.closure_model.specs.ReferenceRound.{round_made, after_round}
 use Rattle.closure_model.specs.Tables.{Graph, IsFor, IsGraph, lowered}
 use Rattle.closure_model.specs.declared.rows.Made.{Made}
-use Rattle.closure_model.proofs.FreshLemmas.{rows_are_met_after_a_round}
+use Rattle.closure_model.proofs.DeltaLemmas.{law_rows_are_saturated_after_a_round}
 use Rattle.closure_model.proofs.Lists.{Contains-map, Contains-map_from, Contains-filter_from, Contains-filter}
 use Rattle.closure_model.proofs.OrderLemmas.{among_from, from_among}
-use Rattle.closure_model.proofs.RoundClosing.{standing_fits, standing_sound}
+use Rattle.closure_model.proofs.RoundClosure.{standing_fits, standing_sound}
 use Rattle.closure_model.proofs.RoundsLaw.{round_stands_after}
-use Rattle.back_propagation.specs.declared.settling.NewRow.{NewRow}
-use Rattle.loop_finder.specs.Kept.{GoesAlong}
-use Rattle.parallel_rounds.specs.Adding.{made_in}
+use Rattle.back_propagation.specs.declared.full_rows.NewRow.{NewRow}
+use Rattle.loop_finder.specs.KeptOrders.{GoesAlong}
+use Rattle.parallel_rounds.specs.StoreUpdate.{made_in}
 use Rattle.parallel_rounds.specs.Rows.{new_row}
-use Rattle.parallel_rounds.specs.Targets.{AreRising, AreRowsOfRound}
-use Rattle.parallel_rounds.specs.Telling.{IsLastRound, AreFreshIn, AreListed, ordinary_made, changed_in, was_low}
-use Rattle.parallel_rounds.specs.declared.telling.LastRound.{LastRound}
-use Rattle.parallel_rounds.proofs.FreshSteps.{fresh_after}
+use Rattle.parallel_rounds.specs.Targets.{AreRisingPoints, AreRowsOfRound}
+use Rattle.parallel_rounds.specs.LastRounds.{IsLastRound, AreDeltaIn, AreListed, ordinary_made, changed_in, was_low}
+use Rattle.parallel_rounds.specs.declared.last_round.LastRound.{LastRound}
+use Rattle.parallel_rounds.proofs.DeltaSteps.{delta_after}
 use Rattle.parallel_rounds.proofs.StaleSteps.{All-from_each, map_pairs, rows_make_round}
 
 module _ (net : Plan) (table : Graph) (rows : List NewRow) (are : AreRowsOfRound net table rows) where
@@ -52,19 +52,20 @@ module _ (net : Plan) (table : Graph) (rows : List NewRow) (are : AreRowsOfRound
   pub rows_inside : All (λ (row : NewRow). row.target.0 < table.shape.points) rows
   rows_inside = All-from_each (λ (row : NewRow). row.target.0 < table.shape.points) rows target_inside
 
-  changed_rise : AreRising (changed_in rows)
+  changed_rise : AreRisingPoints (changed_in rows)
   changed_rise =
       map_pairs (λ (row : NewRow). row.target) (λ (one other : NewRow). one.target.0 < other.target.0) (λ (one other : PointId). one.0 < other.0) (λ one other less. less) (filter (λ (row : NewRow). not (length row.made == 0)) rows)
       (AllPairs-filter (λ (one other : NewRow). one.target.0 < other.target.0) (λ (row : NewRow). not (length row.made == 0)) rows rows_rise)
 
   changed_inside : All (λ (point : PointId). point.0 < table.shape.points) (changed_in rows)
-  changed_inside = All-from_each (λ (point : PointId). point.0 < table.shape.points) (changed_in rows) (λ point there. by point (Contains-map_from (λ (row : NewRow). row.target) (filter (λ (row : NewRow). not (length row.made == 0)) rows) point there))
+  changed_inside = All-from_each (λ (point : PointId). point.0 < table.shape.points) (changed_in rows)
+      (λ point there. by point (Contains-map_from (λ (row : NewRow). row.target) (filter (λ (row : NewRow). not (length row.made == 0)) rows) point there))
     where
       by : (point : PointId) → (row : NewRow) × Contains (filter (λ (row : NewRow). not (length row.made == 0)) rows) row × (row.target ≡ point) → point.0 < table.shape.points
       by point (row, there, is) = subst (λ (p : PointId). p.0 < table.shape.points) is (target_inside row (Contains-filter_from (λ (r : NewRow). not (length r.made == 0)) rows row there))
 
-  unchanged_is : (fresh : List (List Edge)) → AreListed table rows fresh → (point : PointId) → ¬ Contains (changed_in rows) point → fresh_at fresh point ≡ []
-  unchanged_is fresh listed point unchanged = by (is_among are.targets point) refl
+  unchanged_is : (delta : List (List Edge)) → AreListed table rows delta → (point : PointId) → ¬ Contains (changed_in rows) point → delta_at delta point ≡ []
+  unchanged_is delta listed point unchanged = by (contains_point are.targets point) refl
     where
       row : NewRow
       row = new_row net table point
@@ -80,14 +81,15 @@ module _ (net : Plan) (table : Graph) (rows : List NewRow) (are : AreRowsOfRound
       there : Contains are.targets point → Contains rows (new_row net table point)
       there inside = subst (λ (l : List NewRow). Contains l (new_row net table point)) (sym are.rows_are) (Contains-map (new_row net table) are.targets point inside)
 
-      fell : Contains are.targets point → not (length (reference_row net table point) == 0) ≡ true → ⊥
-      fell inside some = unchanged (Contains-map (λ (r : NewRow). r.target) (filter (λ (r : NewRow). not (length r.made == 0)) rows) (new_row net table point) (Contains-filter (λ (r : NewRow). not (length r.made == 0)) rows (new_row net table point) (there inside) some))
+      improved : Contains are.targets point → not (length (reference_row net table point) == 0) ≡ true → ⊥
+      improved inside some = unchanged (Contains-map (λ (r : NewRow). r.target) (filter (λ (r : NewRow). not (length r.made == 0)) rows) (new_row net table point)
+          (Contains-filter (λ (r : NewRow). not (length r.made == 0)) rows (new_row net table point) (there inside) some))
 
-      by : (b : Bool) → is_among are.targets point ≡ b → fresh_at fresh point ≡ []
+      by : (b : Bool) → contains_point are.targets point ≡ b → delta_at delta point ≡ []
       by true is =
           let inside = from_among are.targets point is in
-          let none : reference_row net table point ≡ [] = nothing (reference_row net table point) (fell inside) in
-          let here : AreFreshIn table (reference_row net table point) (fresh_at fresh point) = listed.here (new_row net table point) (there inside) in
+          let none : reference_row net table point ≡ [] = nothing (reference_row net table point) (improved inside) in
+          let here : AreDeltaIn table (reference_row net table point) (delta_at delta point) = listed.here (new_row net table point) (there inside) in
           let long = length_permutation (ordinary_made (reference_row net table point)) here.all here.in_order.same in
           here.kept ∙ ap (filter (λ (edge : Edge). not (was_low table edge))) (no_list here.all (long ∙ ap (λ (made : List Made). length (ordinary_made made)) none))
       by false is = listed.others point (λ r inside same. other r inside same (row_of_target r inside))
@@ -95,17 +97,18 @@ module _ (net : Plan) (table : Graph) (rows : List NewRow) (are : AreRowsOfRound
           other : (r : NewRow) → Contains rows r → r.target ≡ point → (p : PointId) × Contains are.targets p × (new_row net table p ≡ r) → ⊥
           other r inside same (p, at, made) = let clash = among_from are.targets point (subst (Contains are.targets) (ap (λ (x : NewRow). x.target) made ∙ same) at) in absurd cc
 
-pub last_round_is : (net : Plan) (support after : Support) (rows : List NewRow) (last : LastRound) → IsPlan net → StandsOn net support → after ≡ after_round net support → AreRowsOfRound net support.table rows → last.changed.items ≡ changed_in rows
-    → length last.fresh.items ≡ length net.points → AreListed support.table rows last.fresh.items → IsLastRound net after.table last
+pub last_round_is : (net : Plan) (support after : Support) (rows : List NewRow) (last : LastRound) → IsPlan net → StandsOn net support → after ≡ after_round net support → AreRowsOfRound net support.table rows
+    → last.changed.items ≡ changed_in rows
+    → length last.delta.items ≡ length net.points → AreListed support.table rows last.delta.items → IsLastRound net after.table last
 last_round_is net support after rows last plan stands is are changed count listed = record {
-  told = record {
+  informed = record {
     count = count;
-    of_table = subst (λ (t : Graph). AreOfTable t last.fresh.items) (sym table_is) met.0;
-    met = λ to. subst (λ (t : Graph). IsMetBut net t to last.fresh.items) (sym table_is) (met.1 to);
+    of_table = subst (λ (t : Graph). AreOfTable t last.delta.items) (sym table_is) met.0;
+    met = λ to. subst (λ (t : Graph). IsSaturatedBut net t to last.delta.items) (sym table_is) (met.1 to);
   };
-  rise = subst AreRising (sym changed) (changed_rise net support.table rows are);
+  rise = subst AreRisingPoints (sym changed) (changed_rise net support.table rows are);
   points = subst (All (IsPoint net)) (sym changed) (subst (λ (n : ℕ). All (λ (p : PointId). p.0 < n) (changed_in rows)) points (changed_inside net support.table rows are));
-  others = λ point none. unchanged_is net support.table rows are last.fresh.items listed point (λ there. none (subst (λ (l : List PointId). Contains l point) (sym changed) there));
+  others = λ point none. unchanged_is net support.table rows are last.delta.items listed point (λ there. none (subst (λ (l : List PointId). Contains l point) (sym changed) there));
 }
   where
     fits : IsFor net support.table
@@ -123,8 +126,8 @@ last_round_is net support after rows last plan stands is are changed count liste
     sound_now : IsGraph (with_made support.table (round_made net support.table))
     sound_now = subst IsGraph (round_stands_after net support plan stands).table_is (standing_sound net plan (after_round net support) (round_stands_after net support plan stands).stands)
 
-    met : AreOfTable (with_made support.table (round_made net support.table)) last.fresh.items × ((to : PointId) → IsMetBut net (with_made support.table (round_made net support.table)) to last.fresh.items)
-    met = rows_are_met_after_a_round net support.table last.fresh.items plan fits sound (fresh_after net support.table plan fits sound sound_now rows last.fresh.items are listed)
+    met : AreOfTable (with_made support.table (round_made net support.table)) last.delta.items × ((to : PointId) → IsSaturatedBut net (with_made support.table (round_made net support.table)) to last.delta.items)
+    met = law_rows_are_saturated_after_a_round net support.table last.delta.items plan fits sound (delta_after net support.table plan fits sound sound_now rows last.delta.items are listed)
 
 pub rows_fit : (net : Plan) (support : Support) (rows : List NewRow) (points : ℕ) → IsPlan net → StandsOn net support → AreRowsOfRound net support.table rows → points ≡ length net.points → All (λ (row : NewRow). row.target.0 < points) rows
 rows_fit net support rows points plan stands are is =
@@ -154,10 +157,11 @@ stays_more order rows i row inside read before here table is =
     let both : made_in (take (i + 1) rows) ≡ made_in (take i rows) ++ row.made =
     ap made_in more ∙ (flat_map-append (λ (r : NewRow). r.made) (take i rows) (row ∷ []) ∙ ap (λ (list : List Made). made_in (take i rows) ++ list) (append-nil row.made)) in
     let lists : with_made table (made_in (take (i + 1) rows)) ≡ with_made (with_made table (made_in (take i rows))) row.made =
-    ap (with_made table) both ∙ (ap (fold lowered table) (map-append (λ (m : Made). m.edge) (made_in (take i rows)) row.made) ∙ fold-append lowered table (map (λ (m : Made). m.edge) (made_in (take i rows))) (map (λ (m : Made). m.edge) row.made)) in
+    ap (with_made table) both ∙ (ap (fold lowered table) (map-append (λ (m : Made). m.edge) (made_in (take i rows)) row.made)
+    ∙ fold-append lowered table (map (λ (m : Made). m.edge) (made_in (take i rows))) (map (λ (m : Made). m.edge) row.made)) in
     subst (λ (t : Graph). IsOrder t order) (sym lists) (here (with_made table (made_in (take i rows))) (before table is))
 
--- where the rows are those of a round, it stays one of the table after the round
+-- if the rows are those of a round, it stays one of the table after the round
 pub order_stays : (net : Plan) (support after : Support) (rows : List NewRow) (order : List PointId) → IsPlan net → StandsOn net support → after ≡ after_round net support → AreRowsOfRound net support.table rows
     → StaysAfter order (made_in rows) → IsOrder support.table order → IsOrder after.table order
 order_stays net support after rows order plan stands is are stays ordered =

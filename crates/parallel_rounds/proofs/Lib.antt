@@ -1,9 +1,9 @@
-pub mod AddingSteps
+pub mod StoreUpdateSteps
 pub mod GatherSteps
-pub mod Rising
+pub mod RisingPoints
 pub mod InOrder
 pub mod StaleSteps
-pub mod FreshSteps
+pub mod DeltaSteps
 pub mod LastSteps
 pub mod RoundsSteps
 pub mod WorkSteps

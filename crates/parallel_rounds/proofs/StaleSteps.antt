@@ -15,26 +15,26 @@ use Rattle.net_model.specs.Network.{Plan, IsPlan, IsPoint}
 use Rattle.net_model.specs.declared.ids.PointId.{PointId}
 use Rattle.net_model.specs.declared.part.Edge.{Edge}
 use Rattle.closure_model.specs.Keys.{Shape, all_points}
-use Rattle.closure_model.specs.Orders.{is_among}
+use Rattle.closure_model.specs.Orders.{contains_point}
 use Rattle.closure_model.specs.ReferenceRow.{reference_row}
 use Rattle.closure_model.specs.ReferenceRound.{round_made}
 use Rattle.closure_model.specs.RoundLaws.{IsStale}
 use Rattle.closure_model.specs.Tables.{Graph, IsFor, IsGraph, row_of, edges_of}
 use Rattle.closure_model.specs.declared.rows.Made.{Made}
 use Rattle.closure_model.proofs.Consequences.{all_points_stand}
-use Rattle.closure_model.proofs.FreshLemmas.{unstale_rows_make_nothing}
+use Rattle.closure_model.proofs.DeltaLemmas.{law_unstale_rows_make_nothing}
 use Rattle.closure_model.proofs.Lists.{Contains-head, Contains-tail, Contains-cases, Contains-none, Contains-map_from, Contains-filter_from, Contains-filter, Contains-filter_passes, any_is, any_from}
 use Rattle.closure_model.proofs.TableLemmas.{listed_edge, edge_listed}
 use Rattle.closure_model.proofs.Weights.{lt_is, lt_true}
 use Rattle.closure_model.proofs.OrderLemmas.{among_from, from_among, both_true}
-use Rattle.back_propagation.specs.declared.settling.NewRow.{NewRow}
+use Rattle.back_propagation.specs.declared.full_rows.NewRow.{NewRow}
 use Rattle.loop_finder.specs.Marks.{AreMarks}
-use Rattle.parallel_rounds.specs.Adding.{made_in}
+use Rattle.parallel_rounds.specs.StoreUpdate.{made_in}
 use Rattle.parallel_rounds.specs.Rows.{new_row}
-use Rattle.parallel_rounds.specs.Targets.{AreRising, AreStale, AreRowsOfRound, reaches, is_reached}
-use Rattle.parallel_rounds.specs.Telling.{IsLastRound}
-use Rattle.parallel_rounds.specs.declared.telling.LastRound.{LastRound}
-use Rattle.parallel_rounds.proofs.Rising.{rising_tail, rising_above, all_rise, all_inside}
+use Rattle.parallel_rounds.specs.Targets.{AreRisingPoints, AreStale, AreRowsOfRound, reaches, is_reached}
+use Rattle.parallel_rounds.specs.LastRounds.{IsLastRound}
+use Rattle.parallel_rounds.specs.declared.last_round.LastRound.{LastRound}
+use Rattle.parallel_rounds.proofs.RisingPoints.{rising_tail, rising_above, all_rise, all_inside}
 
 -- ---- lists
 pub any_mapped : {X Y : Type 0} (p : Y → Bool) (f : X → Y) (xs : List X) → list_any p (map f xs) ≡ list_any (λ x. p (f x)) xs
@@ -58,8 +58,8 @@ pub marks_more : (listed : List PointId) (i points : ℕ) (marks : List Bool) �
     → let number : ℕ = (get_or listed i (record { 0 = 0 })).0 in (length (slice_set marks number true) ≡ points) × AreMarks (take (i + 1) listed) (slice_set marks number true)
 marks_more listed i points marks inside known long are = (
   length-set marks number true ∙ long,
-  λ k within. by k (is_among (take i listed) (record { 0 = k })) (number == k) refl refl (omega (arith, within, length-set marks number true))
-      ∙ sym (ap (λ (these : List PointId). is_among these (record { 0 = k })) (take_more listed i none inside) ∙ list_any-append (λ (other : PointId). other.0 == k) (take i listed) (get_or listed i none ∷ [])),
+  λ k within. by k (contains_point (take i listed) (record { 0 = k })) (number == k) refl refl (omega (arith, within, length-set marks number true))
+      ∙ sym (ap (λ (these : List PointId). contains_point these (record { 0 = k })) (take_more listed i none inside) ∙ list_any-append (λ (other : PointId). other.0 == k) (take i listed) (get_or listed i none ∷ [])),
 )
   where
     none : PointId
@@ -74,7 +74,7 @@ marks_more listed i points marks inside known long are = (
     other : (k : ℕ) → (number == k) ≡ false → k ≢ number
     other k not same = false≢true (sym not ∙ eq-eqb number k (sym same))
 
-    by : (k : ℕ) (a same : Bool) → is_among (take i listed) (record { 0 = k }) ≡ a → (number == k) ≡ same → k < length marks → slice_index_or (slice_set marks number true) k false ≡ (a || (same || false))
+    by : (k : ℕ) (a same : Bool) → contains_point (take i listed) (record { 0 = k }) ≡ a → (number == k) ≡ same → k < length marks → slice_index_or (slice_set marks number true) k false ≡ (a || (same || false))
     by k a true among is within = ap (λ n. slice_index_or (slice_set marks number true) n false) (sym (eqb-true number k is)) ∙ (get_or-set_same marks number true false there ∙ sym (or-true a))
     by k true false among is within = get_or-set_other marks number k true false (other k is) ∙ (are k within ∙ among)
     by k false false among is within = get_or-set_other marks number k true false (other k is) ∙ (are k within ∙ among)
@@ -125,7 +125,8 @@ module _ (table : Graph) (changed : List PointId) (marks : List Bool) (are : Are
       both_of : (a b : Bool) → a ≡ true → b ≡ true → (a && b) ≡ true
       both_of a b one other = rw (one, other) refl
 
-pub stale_are : (net : Plan) (table : Graph) (changed : List PointId) (marks : List Bool) (points : ℕ) (targets : List PointId) → IsFor net table → points ≡ length net.points → length marks ≡ points → All (IsPoint net) changed → AreMarks changed marks
+pub stale_are : (net : Plan) (table : Graph) (changed : List PointId) (marks : List Bool) (points : ℕ) (targets : List PointId) → IsFor net table → points ≡ length net.points → length marks ≡ points → All (IsPoint net) changed
+    → AreMarks changed marks
     → targets ≡ filter (is_reached table marks) (map (λ k. record { 0 = k }) (range_with_len 0 points)) → AreStale table changed targets
 stale_are net table changed marks points targets fits long count known are is = subst (AreStale table changed) (sym listed) (record {
   rise = AllPairs-filter (λ (one other : PointId). one.0 < other.0) (is_reached table marks) (all_points table.shape) (all_rise table.shape);
@@ -151,7 +152,7 @@ IsMadeFrom f low count targets =
     ((p : PointId) → Contains targets p → low ≤ p.0) → ((p : PointId) → Contains targets p → p.0 < low + count) → ((p : PointId) → low ≤ p.0 → p.0 < low + count → ¬ Contains targets p → f p ≡ [])
     → flat_map f targets ≡ flat_map f (map (λ (k : ℕ). record { 0 = k }) (range_with_len low count))
 
-made_from : (f : PointId → List Made) (low count : ℕ) (targets : List PointId) → AreRising targets → IsMadeFrom f low count targets
+made_from : (f : PointId → List Made) (low count : ℕ) (targets : List PointId) → AreRisingPoints targets → IsMadeFrom f low count targets
 made_from f low zero [] rise from below others = refl
 made_from f low zero (target ∷ targets) rise from below others = let one = from target (Contains-head target targets) in let two = below target (Contains-head target targets) in absurd (omega arith)
 made_from f low (suc count) [] rise from below others =
@@ -214,15 +215,15 @@ all_rows_are net table rows is = record {
   others = λ point inside none. absurd (none (all_points_stand table.shape point inside));
 }
 
--- so are those of the stale ones, after what fell in the last round
+-- so are those of the stale ones, after what improved in the last round
 pub stale_rows_are : (net : Plan) (table : Graph) (last : LastRound) (targets : List PointId) (rows : List NewRow) → IsPlan net → IsFor net table → IsGraph table → IsLastRound net table last → AreStale table last.changed.items targets
     → rows ≡ map (new_row net table) targets → AreRowsOfRound net table rows
-stale_rows_are net table last targets rows plan fits sound told stale is = record {
+stale_rows_are net table last targets rows plan fits sound informed stale is = record {
   targets = targets;
   rise = stale.rise;
   points = stale.points;
   rows_are = is;
   others = λ point inside none.
-      unstale_rows_make_nothing net table point last.fresh.items plan fits sound (told.told.met point)
-      (λ edge has ends negative. told.others edge.from (λ changed. none (stale.whole point inside (edge, has, ends, negative, changed))));
+      law_unstale_rows_make_nothing net table point last.delta.items plan fits sound (informed.informed.met point)
+      (λ edge has ends negative. informed.others edge.from (λ changed. none (stale.whole point inside (edge, has, ends, negative, changed))));
 }

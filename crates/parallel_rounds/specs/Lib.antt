@@ -1,8 +1,8 @@
-pub mod Adding
+pub mod StoreUpdate
 pub mod Propagated
 pub mod Rows
 pub mod Targets
-pub mod Telling
-pub mod Placing
-pub mod Working
-pub mod Gathering
+pub mod LastRounds
+pub mod Placement
+pub mod WorkerRows
+pub mod WorkerParts

@@ -7,24 +7,24 @@ use Rattle.net_model.specs.declared.part.Edge.{Edge}
 use Rattle.closure_model.specs.ReferenceRow.{reference_row}
 use Rattle.closure_model.specs.RoundLaws.{IsStale}
 use Rattle.closure_model.specs.Tables.{Graph, row_of}
-use Rattle.back_propagation.specs.declared.settling.NewRow.{NewRow}
+use Rattle.back_propagation.specs.declared.full_rows.NewRow.{NewRow}
 use Rattle.parallel_rounds.specs.Rows.{new_row}
 
 -- points rise: each has a lower number than those after it
-abbrev pub AreRising : List PointId → Type 0
-AreRising points = AllPairs (λ (one other : PointId). one.0 < other.0) points
+abbrev pub AreRisingPoints : List PointId → Type 0
+AreRisingPoints points = AllPairs (λ (one other : PointId). one.0 < other.0) points
 
 -- the points of a table that are stale after some points, rising
 pub record AreStale (table : Graph) (changed targets : List PointId) : Type 0 where
-  pub rise : AreRising targets
+  pub rise : AreRisingPoints targets
   pub points : All (λ (point : PointId). point.0 < table.shape.points) targets
   pub stale : All (IsStale table changed) targets
   pub whole : (point : PointId) → point.0 < table.shape.points → IsStale table changed point → Contains targets point
 
--- the rows of a round: those of some targets, rising; in the row of any other point nothing falls
+-- the rows of a round: those of some targets, rising; in the row of any other point nothing improves
 pub record AreRowsOfRound (net : Plan) (table : Graph) (rows : List NewRow) : Type 0 where
   pub targets : List PointId
-  pub rise : AreRising targets
+  pub rise : AreRisingPoints targets
   pub points : All (λ (point : PointId). point.0 < table.shape.points) targets
   pub rows_are : rows ≡ map (new_row net table) targets
   pub others : (point : PointId) → point.0 < table.shape.points → ¬ Contains targets point → reference_row net table point ≡ []

@@ -1,18 +1,20 @@
-//! The parts of the workers of a round, and how they are put together.
+//! The parts of the workers of a round: seats are split, workers run, and their rows are joined.
 
 ghost use Rattle.std.specs.Prelude.{◌≡◌, ◌<◌, ◌+◌, ◌++◌, vec_len, List, IfOk, OnOk};
 ghost use Rattle.std.specs.List.{All};
 ghost use Rattle.net_model.specs.Network.{Plan};
 ghost use Rattle.net_model.specs.declared.ids.PointId.{PointId};
 ghost use Rattle.closure_model.specs.Tables.{Graph};
-ghost use Rattle.work_board.specs.Boards.{IsSeatOf};
-ghost use Rattle.parallel_rounds.specs.Gathering.{CanMakeRows, IsFresh, IsFirst, AreSeats, IsPart, IsPartOf, HasRows, AreParts, AllHaveRows};
-ghost use Rattle.parallel_rounds.specs.Telling.{CanTell};
+ghost use Rattle.work_board.specs.Boards.{IsSeatOfBoard};
+ghost use Rattle.parallel_rounds.specs.WorkerParts.{CanMakeRows, IsUnused, IsFirstSeat, AreSeats};
+ghost use Rattle.parallel_rounds.specs.WorkerParts.{IsPart, IsPartOf, HasRows, AreParts};
+ghost use Rattle.parallel_rounds.specs.WorkerParts.{AllHaveRows};
+ghost use Rattle.parallel_rounds.specs.LastRounds.{CanUseDelta};
 ghost use Rattle.work_board.specs.Views.{joined_with};
 
 use crate::gate::Gate;
+use crate::worker_rows::draw_rows;
 use crate::workers::Workers;
-use crate::working::draw_rows;
 use back_propagation::NewRow;
 use labelled_graph::Table;
 use net_model::{Edge, Items, Network, PointId};
@@ -20,21 +22,22 @@ use std::alloc::{AllocError, Global};
 use std::thread::{Threads, map_vec};
 use work_board::{Board, Seat};
 
-/// What the workers of a round share: the targets whose rows they make, the table against which and the network for which they make
-/// them, the gate before each row, and whether it is told which edges are fresh, by the points in which they end.
+/// What the workers of a round share: the targets whose rows they make, the table against which and
+/// the network for which they make them, the gate before each row, and whether the delta edges are
+/// known, and these by the points in which they end.
 #[derive(Drop)]
-pub(crate) struct Task<'a, G> {
+pub(crate) struct RoundTask<'a, G> {
     pub(crate) targets: &'a [PointId],
     pub(crate) table: &'a Table,
     pub(crate) net: &'a Network,
     pub(crate) gate: &'a G,
-    pub(crate) told: bool,
-    pub(crate) fresh: &'a [Items<Edge>],
+    pub(crate) informed: bool,
+    pub(crate) delta: &'a [Items<Edge>],
 }
 
 /// The rows that a worker made, with its seat.
 #[derive(Drop)]
-pub(crate) struct Part {
+pub(crate) struct WorkerPart {
     pub(crate) seat: Seat,
     pub(crate) rows: Vec<NewRow>,
 }
@@ -45,8 +48,8 @@ pub(crate) fn all_seats(
     board: &Board,
     mut first: Seat,
 ) -> Result<Vec<Seat>, AllocError>
-    requires fresh { IsFresh board.now first }
-    requires first { IsFirst 0 first }
+    requires unused { IsUnused board.now first }
+    requires first { IsFirstSeat 0 first }
     ensures seats { IfOk result (λ seats. AreSeats board.now seats.items) }
     ensures len { IfOk result (λ seats. vec_len seats ≡ first.view.to_split + 1) }
 {
@@ -63,52 +66,63 @@ fn make_part<G: Gate>(
     alloc: Global,
     board: &Board,
     mut seat: Seat,
-    task: &Task<G>,
-) -> Result<Part, AllocError>
+    task: &RoundTask<G>,
+) -> Result<WorkerPart, AllocError>
     requires can { CanMakeRows task.now.net.now task.now.table.now task.now.targets.now board.now }
-    requires fresh { IsFresh board.now seat }
-    requires told { CanTell task.now.net.now task.now.table.now task.now.told task.now.fresh.now }
-    ensures { IfOk result (IsPartOf task.now.net.now task.now.table.now task.now.targets.now board.now seat) }
+    requires unused { IsUnused board.now seat }
+    requires informed { CanUseDelta task.now.net.now task.now.table.now task.now.informed
+        task.now.delta.now }
+    ensures { IfOk result (IsPartOf task.now.net.now task.now.table.now task.now.targets.now
+        board.now seat) }
 {
     let rows = draw_rows(alloc, board, &mut seat, task)?;
-    Ok(Part { seat, rows })
+    Ok(WorkerPart { seat, rows })
 }
 
 impl<'a, R: Threads + Sync> Workers<'a, R> {
-    /// The parts of all workers, one for each seat, which they make at once. That of the first seat stands at the end.
+    /// The parts of all workers, one for each seat, which they make at once. That of the first seat
+    /// stands at the end.
     pub(crate) fn all_parts<G: Gate>(
         &self,
         board: &Board,
         seats: Vec<Seat>,
-        task: &Task<G>,
-    ) -> Result<Vec<Result<Part, AllocError>>, AllocError>
-        requires can { CanMakeRows task.now.net.now task.now.table.now task.now.targets.now board.now }
+        task: &RoundTask<G>,
+    ) -> Result<Vec<Result<WorkerPart, AllocError>>, AllocError>
+        requires can { CanMakeRows task.now.net.now task.now.table.now task.now.targets.now
+            board.now }
         requires seats { AreSeats board.now seats.items }
-        requires told { CanTell task.now.net.now task.now.table.now task.now.told task.now.fresh.now }
+        requires informed { CanUseDelta task.now.net.now task.now.table.now task.now.informed
+            task.now.delta.now }
         ensures parts { IfOk result (λ parts. AreParts board.now parts.items) }
-        ensures rows { IfOk result (λ parts. AllHaveRows task.now.net.now task.now.table.now task.now.targets.now parts.items) }
+        ensures rows { IfOk result (λ parts. AllHaveRows task.now.net.now task.now.table.now
+            task.now.targets.now parts.items) }
     {
         let alloc = self.alloc();
         map_vec(
             self.rt(),
             seats,
-            &|seat| -> Result<Part, AllocError>
-                requires { CanMakeRows task.now.net.now task.now.table.now task.now.targets.now board.now × IsFresh board.now seat × CanTell task.now.net.now task.now.table.now task.now.told task.now.fresh.now }
-                ensures { IfOk result (IsPartOf task.entry.now.net.now task.entry.now.table.now task.entry.now.targets.now board.entry.now seat) }
+            &|seat| -> Result<WorkerPart, AllocError>
+                requires { CanMakeRows task.now.net.now task.now.table.now task.now.targets.now
+                    board.now × IsUnused board.now seat
+                    × CanUseDelta task.now.net.now task.now.table.now task.now.informed
+                    task.now.delta.now }
+                ensures { IfOk result (IsPartOf task.entry.now.net.now task.entry.now.table.now
+                    task.entry.now.targets.now board.entry.now seat) }
             { make_part(alloc, board, seat, task) },
         )
     }
 }
 
-/// The first worker's part, with those of the others joined into it. `AllocError` comes where a worker had no memory, or there is none
-/// for all rows.
+/// The first worker's part, with those of the others joined into it. `AllocError` comes if a worker
+/// had no memory, or there is none for all rows.
 pub(crate) fn gather(
     board: &Board,
-    mut parts: Vec<Result<Part, AllocError>>,
-) -> Result<Part, AllocError>
+    mut parts: Vec<Result<WorkerPart, AllocError>>,
+) -> Result<WorkerPart, AllocError>
     requires { AreParts board.now parts.items }
-    ensures seat { IfOk result (λ all. IsPart board.now all × IsFirst 0 all.seat) }
-    ensures rows { IfOk result (λ all. (net : Plan) (table : Graph) (targets : List PointId) → AllHaveRows net table targets parts.items → HasRows net table targets all) }
+    ensures seat { IfOk result (λ all. IsPart board.now all × IsFirstSeat 0 all.seat) }
+    ensures rows { IfOk result (λ all. (net : Plan) (table : Graph) (targets : List PointId)
+        → AllHaveRows net table targets parts.items → HasRows net table targets all) }
 {
     let mut all = parts.pop().unwrap()?;
     while let Some(part) = parts.pop() {
@@ -118,13 +132,16 @@ pub(crate) fn gather(
 }
 
 /// Joins another worker's part into that of the first.
-fn join_part(board: &Board, all: &mut Part, part: Part) -> Result<(), AllocError>
-    requires seats { IsSeatOf board.now all.old.seat × IsSeatOf board.now part.seat }
+fn join_part(board: &Board, all: &mut WorkerPart, part: WorkerPart) -> Result<(), AllocError>
+    requires seats { IsSeatOfBoard board.now all.old.seat × IsSeatOfBoard board.now part.seat }
     requires out { 0 < all.old.seat.view.out }
-    ensures seat { OnOk result (all.new.seat ≡ record { board = all.old.seat.board; view = joined_with all.old.seat.view part.seat.view }) }
+    ensures seat { OnOk result (all.new.seat ≡ record {
+      board = all.old.seat.board;
+      view = joined_with all.old.seat.view part.seat.view;
+    }) }
     ensures rows { OnOk result (all.new.rows.items ≡ all.old.rows.items ++ part.rows.items) }
 {
-    let Part { seat, mut rows } = part;
+    let WorkerPart { seat, mut rows } = part;
     board.join(&mut all.seat, seat);
     all.rows.append(&mut rows)
 }

@@ -1,3 +1,5 @@
+//! The rounds, one after another, until the table of a store is closed or has a negative cycle.
+
 ghost use Rattle.std.specs.Prelude.{◌≡◌, ◌≢◌, ◌≤◌, true, [], IfOk, IfSome, MatchOption};
 ghost use Rattle.closure_model.specs.Orders.{IsOrder};
 ghost use Rattle.closure_model.specs.Derivations.{StandsOn};
@@ -7,16 +9,16 @@ ghost use Rattle.closure_model.specs.Tables.{IsFor, IsGraph};
 ghost use Rattle.work_board.specs.Limits.{most_seats};
 ghost use Rattle.parallel_rounds.specs.Propagated.{IsPropagated};
 ghost use Rattle.parallel_rounds.specs.Targets.{AreRowsOfRound};
-ghost use Rattle.parallel_rounds.specs.Telling.{IsLastRound};
+ghost use Rattle.parallel_rounds.specs.LastRounds.{IsLastRound};
 
-use crate::adding::{firsts_in, take_all};
 use crate::gate::Gate;
+use crate::last_round::LastRound;
 use crate::outcome::Outcome;
-use crate::parts::Task;
-use crate::placing::{Placed, closed, order_if, place};
+use crate::parts::RoundTask;
+use crate::placement::{Placed, closed, order_if, place};
 use crate::rows::round;
 use crate::staleness::stale;
-use crate::telling::LastRound;
+use crate::store_update::{firsts_in, take_all};
 use crate::workers::Workers;
 use back_propagation::NewRow;
 use derivation_dag::Supports;
@@ -26,14 +28,23 @@ use net_model::Network;
 use std::alloc::{AllocError, Global};
 use std::thread::Threads;
 
-/// Where so little is told of the last round that starting threads would take longer than the rows, one worker makes the round: the number
-/// of rows times that of points, with that of edges that fell, is below this.
+/// One worker makes a round that is so small that starting threads would take longer than its rows:
+/// the number of rows times that of points, plus that of the edges that improved in the last round,
+/// is below this.
 const LITTLE: usize = 20_000;
 
-/// Makes rounds until the table of a store is closed, or until it has a cycle of negative ordinary edges. The store stands on the
-/// network; there are 1 to 64 workers. Its list gains exactly the nodes of the reference rounds, in their order. In the first round all
-/// rows are made, in each later one those that are stale after the points in whose rows something fell. `AllocError` comes only for want
-/// of memory; then the store is lost, and the caller drops it.
+/// Makes rounds until the table of a store is closed, or until it has a cycle of negative ordinary
+/// edges. The store stands on the network; there are 1 to 64 workers. The list of the store gains
+/// exactly the nodes of the reference rounds, in their order. `Closed` says that the table is the
+/// closure of the network, with its order; `Looped` has the cycle that is the one of the
+/// definition. The rounds, of which there is at most one more than points, are a history of the
+/// table, and a settled one if they close it (`law_rounds_that_close_settle` of shared_table_laws).
+/// The store stands on the network as before; no weight rose, and all are from -M to M.
+/// `AllocError` comes only for want of memory; then the store is lost, and the caller drops it.
+///
+/// In the first round all rows are made, in each later one those that are stale after the points in
+/// whose rows an edge improved, by one worker if few rows and few improvements make a round small.
+/// Which rows are made, and by how many workers, no clause says.
 pub fn propagate<R: Threads + Sync, S: Supports, G: Gate>(
     rt: &R,
     alloc: Global,
@@ -58,7 +69,7 @@ pub fn propagate<R: Threads + Sync, S: Supports, G: Gate>(
     loop {
         let order = match place(alloc, store.table(), points, kept)? {
             Placed::InOrder(order) => order,
-            Placed::Round(cycle) => return Ok(Outcome::Looped { rounds, cycle }),
+            Placed::Cyclic(cycle) => return Ok(Outcome::Looped { rounds, cycle }),
         };
         rounds += 1;
         match by.make_round(store, &order, &last)? {
@@ -71,7 +82,8 @@ pub fn propagate<R: Threads + Sync, S: Supports, G: Gate>(
     }
 }
 
-/// By what rounds are made: the workers, the network for which they make rows, and the gate before each row.
+/// What rounds are made with: the workers, the network for which they make rows, and the gate
+/// before each row.
 #[derive(Drop)]
 pub(crate) struct Rounds<'a, R, G> {
     workers: Workers<'a, R>,
@@ -80,7 +92,7 @@ pub(crate) struct Rounds<'a, R, G> {
 }
 
 impl<'a, R: Threads + Sync, G: Gate> Rounds<'a, R, G> {
-    /// Makes one round, and says what fell in it, if anything did.
+    /// Makes one round, and returns what improved in it, if anything did.
     fn make_round<S: Supports>(
         &self,
         store: &mut S,
@@ -89,9 +101,15 @@ impl<'a, R: Threads + Sync, G: Gate> Rounds<'a, R, G> {
     ) -> Result<Option<LastRound>, AllocError>
         requires stands { StandsOn self.now.net.now (S.support store.old) }
         requires last { IfSome last.now (IsLastRound self.now.net.now (S.support store.old).table) }
-        ensures after { IfOk result (λ _. S.support store.new ≡ after_round self.now.net.now (S.support store.old)) }
-        ensures fell { IfOk result (λ last. MatchOption last (round_made self.now.net.now (S.support store.old).table ≡ []) (λ last. (round_made self.now.net.now (S.support store.old).table ≢ []) × IsLastRound self.now.net.now (S.support store.new).table last)) }
-        ensures stays { IfOk result (λ last. IfSome last (λ last. last.stays ≡ true → IsOrder (S.support store.old).table order.now → IsOrder (S.support store.new).table order.now)) }
+        ensures after { IfOk result (λ _. S.support store.new ≡ after_round self.now.net.now
+            (S.support store.old)) }
+        ensures improved { IfOk result
+            (λ last. MatchOption last (round_made self.now.net.now (S.support store.old).table ≡
+            []) (λ last. (round_made self.now.net.now (S.support store.old).table ≢ [])
+            × IsLastRound self.now.net.now (S.support store.new).table last)) }
+        ensures stays { IfOk result (λ last. IfSome last (λ last. last.stays ≡ true
+            → IsOrder (S.support store.old).table order.now
+            → IsOrder (S.support store.new).table order.now)) }
     {
         let alloc = self.workers.alloc();
         let points = self.net.points().len() as u32;
@@ -112,7 +130,8 @@ impl<'a, R: Threads + Sync, G: Gate> Rounds<'a, R, G> {
         Ok(Some(last))
     }
 
-    /// The rows of a round: all of them where nothing is told of the last one, else those in which something can fall.
+    /// The rows of a round: all of them if it is the first one, else those in which something can
+    /// improve.
     fn rows_of_round(
         &self,
         table: &Table,
@@ -147,7 +166,7 @@ impl<'a, R: Threads + Sync, G: Gate> Rounds<'a, R, G> {
         )
     }
 
-    /// The rows that are stale after the last round, told what fell in it.
+    /// The rows that are stale after the last round, made after its delta edges.
     fn stale_rows(&self, table: &Table, last: &LastRound) -> Result<Vec<NewRow>, AllocError>
         requires fits { IsFor self.now.net.now table.now }
         requires within { HasWeightsWithin self.now.net.now table.now }
@@ -162,20 +181,21 @@ impl<'a, R: Threads + Sync, G: Gate> Rounds<'a, R, G> {
             self.net,
             last.changed.as_slice(),
         )?;
-        let task = Task {
+        let task = RoundTask {
             targets: targets.as_slice(),
             table,
             net: self.net,
             gate: self.gate,
-            told: true,
-            fresh: last.fresh.as_slice(),
+            informed: true,
+            delta: last.delta.as_slice(),
         };
-        let is_little = is_little(targets.len(), names.len(), last.fallen);
+        let is_little = is_little(targets.len(), names.len(), last.improvements);
         self.workers.worth(is_little).rows_of(&task)
     }
 }
 
-/// Whether the rows of so many targets, after so many edges fell, are made sooner by one worker than threads are started.
-fn is_little(targets: usize, points: usize, fallen: usize) -> bool {
-    targets.saturating_mul(points).saturating_add(fallen) < LITTLE
+/// Whether the rows of so many targets, after so many edges improved, are made sooner by one worker
+/// than threads are started.
+fn is_little(targets: usize, points: usize, improvements: usize) -> bool {
+    targets.saturating_mul(points).saturating_add(improvements) < LITTLE
 }

@@ -1,3 +1,5 @@
+//! The rows of a round, made by several workers and put in the order of their targets.
+
 ghost use Rattle.std.specs.Prelude.{◌≡◌, ◌≤◌, ◌<◌, map, IfOk};
 ghost use Rattle.std.specs.List.{All};
 ghost use Rattle.std.specs.List.Sorted.{IsPermutation, IsNonDecreasingBy};
@@ -6,13 +8,14 @@ ghost use Rattle.closure_model.specs.Keys.{all_points, shape_of};
 ghost use Rattle.closure_model.specs.ReferenceRow.{HasWeightsWithin};
 ghost use Rattle.closure_model.specs.Tables.{IsFor};
 ghost use Rattle.work_board.specs.Limits.{most_seats};
-ghost use Rattle.parallel_rounds.specs.Gathering.{CanMakeRows, IsFresh, IsFirst, IsPart, HasRows};
+ghost use Rattle.parallel_rounds.specs.WorkerParts.{CanMakeRows, IsUnused, IsFirstSeat, IsPart};
+ghost use Rattle.parallel_rounds.specs.WorkerParts.{HasRows};
 ghost use Rattle.parallel_rounds.specs.Rows.{new_row};
-ghost use Rattle.parallel_rounds.specs.Targets.{AreRising};
-ghost use Rattle.parallel_rounds.specs.Telling.{CanTell};
+ghost use Rattle.parallel_rounds.specs.Targets.{AreRisingPoints};
+ghost use Rattle.parallel_rounds.specs.LastRounds.{CanUseDelta};
 
 use crate::gate::Gate;
-use crate::parts::{Part, Task, all_seats, gather};
+use crate::parts::{RoundTask, WorkerPart, all_seats, gather};
 use crate::workers::Workers;
 use back_propagation::NewRow;
 use labelled_graph::Table;
@@ -21,9 +24,11 @@ use std::alloc::{AllocError, Global};
 use std::thread::Threads;
 use work_board::{Board, Seat};
 
-/// The rows of all targets against a table of the network whose weights are from -M to M, in the order of the targets. 1 to 64 workers
-/// make them at once; each takes the next target that none has taken yet, until there is none left. The gate is called before each
-/// row. `AllocError` comes only for want of memory.
+/// The rows of all targets against a table of the network whose weights are from -M to M, in the
+/// order of the targets. 1 to 64 workers make them at once; each takes the next target that none
+/// has taken yet, until there is none left. The rows are the same for every number of workers. The
+/// gate is called before each row. `AllocError` comes only for want of memory. That the workers are
+/// at work at the same time is tested (`example_rounds/src/workers.rt`), not proved.
 pub fn round<R: Threads + Sync, G: Gate>(
     rt: &R,
     alloc: Global,
@@ -35,14 +40,17 @@ pub fn round<R: Threads + Sync, G: Gate>(
     requires workers { (1 ≤ workers) × (workers ≤ most_seats) }
     requires fits { IsFor net.now table.now }
     requires within { HasWeightsWithin net.now table.now }
-    ensures { IfOk result (λ rows. rows.items ≡ map (new_row net.now table.now) (all_points table.now.shape)) }
+    ensures { IfOk result (λ rows. rows.items ≡ map (new_row net.now table.now)
+        (all_points table.now.shape)) }
 {
     let targets = all_targets(alloc, net)?;
     round_of(rt, alloc, table, net, targets.as_slice(), workers, gate)
 }
 
-/// The rows of some targets, in their order, as `round` makes those of all. Targets are points of the network, and each has a lower
-/// number than those after it. The gate is told the target.
+/// The rows of some targets, in their order, as `round` makes those of all. Targets are points of
+/// the network, and each has a lower number than those after it. The gate is called with the number
+/// of the target. That is tested (`example_rounds/src/staleness.rt`), not proved. `AllocError`
+/// comes only for want of memory.
 pub fn round_of<R: Threads + Sync, G: Gate>(
     rt: &R,
     alloc: Global,
@@ -56,17 +64,17 @@ pub fn round_of<R: Threads + Sync, G: Gate>(
     requires fits { IsFor net.now table.now }
     requires within { HasWeightsWithin net.now table.now }
     requires points { All (IsPoint net.now) targets.now }
-    requires rise { AreRising targets.now }
+    requires rise { AreRisingPoints targets.now }
     ensures { IfOk result (λ rows. rows.items ≡ map (new_row net.now table.now) targets.now) }
 {
     let nothing = [];
-    let task = Task {
+    let task = RoundTask {
         targets,
         table,
         net,
         gate,
-        told: false,
-        fresh: nothing.as_slice(),
+        informed: false,
+        delta: nothing.as_slice(),
     };
     Workers::of(rt, alloc, workers).rows_of(&task)
 }
@@ -82,17 +90,19 @@ fn all_targets(alloc: Global, net: &Network) -> Result<Vec<PointId>, AllocError>
 
 impl<'a, R: Threads + Sync> Workers<'a, R> {
     /// The rows of the targets of a task, in their order.
-    pub(crate) fn rows_of<G: Gate>(&self, task: &Task<G>) -> Result<Vec<NewRow>, AllocError>
+    pub(crate) fn rows_of<G: Gate>(&self, task: &RoundTask<G>) -> Result<Vec<NewRow>, AllocError>
         requires fits { IsFor task.now.net.now task.now.table.now }
         requires within { HasWeightsWithin task.now.net.now task.now.table.now }
         requires points { All (IsPoint task.now.net.now) task.now.targets.now }
-        requires rise { AreRising task.now.targets.now }
-        requires told { CanTell task.now.net.now task.now.table.now task.now.told task.now.fresh.now }
-        ensures { IfOk result (λ rows. rows.items ≡ map (new_row task.now.net.now task.now.table.now) task.now.targets.now) }
+        requires rise { AreRisingPoints task.now.targets.now }
+        requires informed { CanUseDelta task.now.net.now task.now.table.now task.now.informed
+            task.now.delta.now }
+        ensures { IfOk result (λ rows. rows.items ≡ map
+            (new_row task.now.net.now task.now.table.now) task.now.targets.now) }
     {
         task.net.sound();
         let (board, first) = Board::new(self.alloc(), task.targets.len() as u32, self.count())?;
-        let Part { seat, mut rows } = self.make_rows(&board, first, task)?;
+        let WorkerPart { seat, mut rows } = self.make_rows(&board, first, task)?;
         board.close(seat);
         put_in_order(&mut rows);
         Ok(rows)
@@ -103,14 +113,17 @@ impl<'a, R: Threads + Sync> Workers<'a, R> {
         &self,
         board: &Board,
         first: Seat,
-        task: &Task<G>,
-    ) -> Result<Part, AllocError>
-        requires can { CanMakeRows task.now.net.now task.now.table.now task.now.targets.now board.now }
-        requires fresh { IsFresh board.now first }
-        requires first { IsFirst 0 first }
-        requires told { CanTell task.now.net.now task.now.table.now task.now.told task.now.fresh.now }
-        ensures seat { IfOk result (λ all. IsPart board.now all × IsFirst 0 all.seat) }
-        ensures rows { IfOk result (HasRows task.now.net.now task.now.table.now task.now.targets.now) }
+        task: &RoundTask<G>,
+    ) -> Result<WorkerPart, AllocError>
+        requires can { CanMakeRows task.now.net.now task.now.table.now task.now.targets.now
+            board.now }
+        requires unused { IsUnused board.now first }
+        requires first { IsFirstSeat 0 first }
+        requires informed { CanUseDelta task.now.net.now task.now.table.now task.now.informed
+            task.now.delta.now }
+        ensures seat { IfOk result (λ all. IsPart board.now all × IsFirstSeat 0 all.seat) }
+        ensures rows { IfOk result (HasRows task.now.net.now task.now.table.now
+            task.now.targets.now) }
     {
         let seats = all_seats(self.alloc(), board, first)?;
         let parts = self.all_parts(board, seats, task)?;

@@ -1,18 +1,22 @@
+//! The targets that are stale after changed points.
+
 ghost use Rattle.std.specs.Prelude.{◌≡◌, ◌<◌, ◌++◌, ◌∷◌, [], false, length, filter, IfOk, OnOk};
 ghost use Rattle.std.specs.List.{All, list_any, slice_index_or};
 ghost use Rattle.net_model.specs.Network.{IsPoint};
 ghost use Rattle.closure_model.specs.Tables.{IsFor};
 ghost use Rattle.labelled_graph.specs.Entries.{edge_into};
 ghost use Rattle.loop_finder.specs.Marks.{AreMarks};
-ghost use Rattle.parallel_rounds.specs.Targets.{AreRising, AreStale, is_reached, reaches};
+ghost use Rattle.parallel_rounds.specs.Targets.{AreRisingPoints, AreStale, is_reached, reaches};
 
 use labelled_graph::{Entry, Table};
 use net_model::{Edge, Network, PointId};
 use std::alloc::{AllocError, Global};
 
-/// The targets that are stale after some points, in the order of their numbers: exactly those to which a negative edge of the table,
-/// labelled or not, goes from one of the points. The points are of the network, and each has a lower number than those after it.
-/// `AllocError` comes only for want of memory.
+/// The targets that are stale after some points, in the order of their numbers: exactly those to
+/// which a negative edge of the table, labelled or not, goes from one of the points. The points are
+/// of the network, and each has a lower number than those after it. `AllocError` comes only for
+/// want of memory. A row that is not stale after the points in whose rows something improved makes
+/// nothing in the next round (`law_unstale_rows_stay` of closure_model).
 pub fn stale(
     alloc: Global,
     table: &Table,
@@ -21,7 +25,7 @@ pub fn stale(
 ) -> Result<Vec<PointId>, AllocError>
     requires fits { IsFor net.now table.now }
     requires points { All (IsPoint net.now) changed.now }
-    requires rise { AreRising changed.now }
+    requires rise { AreRisingPoints changed.now }
     ensures { IfOk result (λ targets. AreStale table.now changed.now targets.items) }
 {
     let points = net.points().len() as u32;
@@ -33,7 +37,7 @@ pub fn stale(
     Ok(targets)
 }
 
-/// Puts a target at the end of others where a negative edge goes to it from a marked point.
+/// Puts a target at the end of others if a negative edge goes to it from a marked point.
 fn push_stale(
     table: &Table,
     target: PointId,
@@ -41,7 +45,8 @@ fn push_stale(
     targets: &mut Vec<PointId>,
 ) -> Result<(), AllocError>
     requires { target.0 < table.now.shape.points }
-    ensures { OnOk result (targets.new.items ≡ targets.old.items ++ filter (is_reached table.now marks.now) (target ∷ [])) }
+    ensures { OnOk result (targets.new.items ≡ targets.old.items ++ filter
+        (is_reached table.now marks.now) (target ∷ [])) }
 {
     if is_reached(table, target, marks) {
         targets.push(target)?;

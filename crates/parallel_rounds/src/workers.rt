@@ -1,4 +1,4 @@
-//! The workers who make the rows of a round.
+//! The workers who make the rows of a round: how many, with their threads and memory.
 
 ghost use Rattle.std.specs.Prelude.{◌≡◌, ◌≤◌};
 ghost use Rattle.work_board.specs.Limits.{most_seats};
@@ -6,7 +6,8 @@ ghost use Rattle.work_board.specs.Limits.{most_seats};
 use std::alloc::Global;
 use std::marker::Model;
 
-/// The workers of a round, 1 to 64: the threads on which they run, their memory, and how many they are. Contracts see them as their number.
+/// The workers of a round, 1 to 64: the threads on which they run, their memory, and how many they
+/// are. Contracts see them as their number.
 #[derive(Drop)]
 pub(crate) struct Workers<'a, R> {
     rt: &'a R,
@@ -34,7 +35,7 @@ impl<'a, R> Workers<'a, R> {
         Workers { rt, alloc, count }
     }
 
-    /// As many of them as are worth starting: the first alone where there is little to do.
+    /// As many of them as are worth starting: the first alone if there is little to do.
     pub(crate) fn worth(&self, is_little: bool) -> Workers<'a, R> {
         let count = if is_little { 1 } else { self.count };
         Workers::of(self.rt, self.alloc, count)

@@ -1,2 +1,2 @@
 pub mod PlanLemmas
-pub mod OpeningLemmas
+pub mod FleetStartLemmas

@@ -3,32 +3,33 @@ use Rattle.std.proofs.Common.{◌≡◌, inl, inr, ℕ, List, length, Option, So
 use Rattle.net_model.specs.Moments.{Moments}
 use Rattle.net_model.specs.Network.{Plan, IsPlan}
 use Rattle.net_model.specs.declared.ids.PointId.{PointId}
-use Rattle.controllability.specs.Laws.{CyclesOfTablesExclude, OrderedClosuresAreControllable}
+use Rattle.closure_laws.specs.Laws.{CyclesOfTablesExclude, OrderedClosuresAreControllable}
 use Rattle.net_model.specs.ShownForm.{shown_form}
 use Rattle.strategy_model.specs.Plays.{IsInstant}
 use Rattle.strategy_model.specs.ShownLaws.{ControllableIsShown}
 use Rattle.dispatch_net.specs.Dispatchable.{MayDispatch, DispatchLists, dispatchable}
 use Rattle.dispatch_net.specs.declared.dispatch.Conditions.{Conditions}
 use Rattle.dispatch_net.proofs.ExecutionLemmas.{dispatchable_length}
-use Rattle.dispatch_net.proofs.EarliestLemmas.{closures_may_dispatch}
-use Rattle.execution_model.specs.Feeding.{Execution, after_feed, first_open, IsFed, IsFinished, IsWhole, started, taken}
+use Rattle.dispatch_net.proofs.EarliestLemmas.{law_closures_may_dispatch}
+use Rattle.execution_model.specs.Feeds.{Execution, after_feed, first_open, IsFed, IsFinished, IsWhole, started, taken}
 use Rattle.execution_model.specs.Laws.{IsDispatchedByClosure}
-use Rattle.execution_model.specs.declared.feeding.Fed.{Fed}
-use Rattle.execution_model.specs.declared.feeding.Fed.TheVariants as fed
-use Rattle.execution_model.specs.declared.feeding.Finished.{Finished}
-use Rattle.execution_model.specs.declared.feeding.Finished.TheVariants as finished
-use Rattle.execution_model.specs.declared.feeding.Why.{Why}
-use Rattle.execution_model.proofs.GraphLemmas.{closures_are_graphs}
+use Rattle.execution_model.specs.declared.feed_answers.Fed.{Fed}
+use Rattle.execution_model.specs.declared.feed_answers.Fed.TheVariants as fed
+use Rattle.execution_model.specs.declared.feed_answers.Finished.{Finished}
+use Rattle.execution_model.specs.declared.feed_answers.Finished.TheVariants as finished
+use Rattle.execution_model.specs.declared.feed_answers.Why.{Why}
+use Rattle.execution_model.proofs.GraphLemmas.{law_closures_are_graphs}
 use Rattle.live_executor.specs.Sound.{IsDispatchOf}
-use Rattle.table_closing.specs.Closing.{IsClosedBy}
-use Rattle.table_closing.specs.declared.closing.Closed.{Closed}
+use Rattle.network_closure.specs.Saturation.{IsClosedBy}
+use Rattle.network_closure.specs.declared.closure.Closed.{Closed}
 use Rattle.plan_fleet.specs.FleetPlans.{FleetPlan, IsFleetPlan, IsFedPlan, IsFinishedPlan, OpensTo, state_at_first, state_fed, state_finished}
-use Rattle.plan_fleet.specs.Openings.{StartsBy, StartsWhere}
+use Rattle.plan_fleet.specs.FleetStart.{StartsBy, StartsWhere}
 use Rattle.plan_fleet.specs.declared.states.State.{State}
 use Rattle.plan_fleet.specs.declared.states.State.TheVariants as state
 
 -- ---- a feed and the end
-pub fed_plan : (inside member : FleetPlan) (moment : ℕ) (listed : List PointId) (answer : Fed) (execution after : Execution) (stands : State) → inside ≡ member → inside.state ≡ state.Running → inside.execution ≡ Some execution → IsFed execution moment listed answer after → stands ≡ state_fed answer
+pub fed_plan : (inside member : FleetPlan) (moment : ℕ) (listed : List PointId) (answer : Fed) (execution after : Execution) (stands : State) → inside ≡ member → inside.state ≡ state.Running → inside.execution ≡ Some execution
+    → IsFed execution moment listed answer after → stands ≡ state_fed answer
     → IsFedPlan member moment listed answer (record { net = inside.net; execution = Some after; state = stands })
 fed_plan inside member moment listed answer execution after stands same runs was feeds is =
     let here : IsFedPlan inside moment listed answer (record { net = inside.net; execution = Some after; state = stands }) = record {
@@ -41,7 +42,8 @@ fed_plan inside member moment listed answer execution after stands same runs was
     } in
     subst (λ (c : FleetPlan). IsFedPlan c moment listed answer (record { net = inside.net; execution = Some after; state = stands })) same here
 
-pub finished_plan : (inside member : FleetPlan) (answer : Finished) (execution after : Execution) (stands : State) → inside ≡ member → inside.state ≡ state.Running → inside.execution ≡ Some execution → IsFinished execution answer after → stands ≡ state_finished answer
+pub finished_plan : (inside member : FleetPlan) (answer : Finished) (execution after : Execution) (stands : State) → inside ≡ member → inside.state ≡ state.Running → inside.execution ≡ Some execution → IsFinished execution answer after
+    → stands ≡ state_finished answer
     → IsFinishedPlan member answer (record { net = inside.net; execution = Some after; state = stands })
 finished_plan inside member answer execution after stands same runs was finishes is =
     let here : IsFinishedPlan inside answer (record { net = inside.net; execution = Some after; state = stands }) = record {
@@ -55,7 +57,7 @@ finished_plan inside member answer execution after stands same runs was finishes
     subst (λ (c : FleetPlan). IsFinishedPlan c answer (record { net = inside.net; execution = Some after; state = stands })) same here
 
 -- ---- what is kept
--- a feed of an execution that goes on, which is not refused, leaves one that goes on; and the network's lists stay
+-- a feed of an execution that continues, which is not refused, leaves one that continues; and the network's lists stay
 record StillGoes (execution : Execution) (runs : Type 0) (after : Execution) : Type 0 where
   pub setting : after.setting ≡ execution.setting
   pub goes : runs → after.refused ≡ None
@@ -76,7 +78,8 @@ module _ (execution : Execution) (moment : ℕ) (listed : List PointId) (answer 
   fed_kept : IsFed execution moment listed answer after → StillGoes execution (state_fed answer ≡ state.Running) after
   fed_kept is = fed_by (taken execution moment listed) (subst FedWhere going is)
 
-pub fed_is_plan : (inside : FleetPlan) (moment : ℕ) (listed : List PointId) (answer : Fed) (execution after : Execution) (stands : State) → IsFleetPlan inside → inside.state ≡ state.Running → inside.execution ≡ Some execution → IsFed execution moment listed answer after → stands ≡ state_fed answer
+pub fed_is_plan : (inside : FleetPlan) (moment : ℕ) (listed : List PointId) (answer : Fed) (execution after : Execution) (stands : State) → IsFleetPlan inside → inside.state ≡ state.Running → inside.execution ≡ Some execution
+    → IsFed execution moment listed answer after → stands ≡ state_fed answer
     → IsFleetPlan (record { net = inside.net; execution = Some after; state = stands })
 fed_is_plan inside moment listed answer execution after stands is runs was feeds same =
     let before = is.runs runs in
@@ -105,7 +108,8 @@ module _ (execution : Execution) (answer : Finished) (after : Execution) (going 
   finished_kept : IsFinished execution answer after → StillGoes execution (state_finished answer ≡ state.Running) after
   finished_kept is = finished_by (first_open execution) (subst FinishedWhere going is)
 
-pub finished_is_plan : (inside : FleetPlan) (answer : Finished) (execution after : Execution) (stands : State) → IsFleetPlan inside → inside.state ≡ state.Running → inside.execution ≡ Some execution → IsFinished execution answer after → stands ≡ state_finished answer
+pub finished_is_plan : (inside : FleetPlan) (answer : Finished) (execution after : Execution) (stands : State) → IsFleetPlan inside → inside.state ≡ state.Running → inside.execution ≡ Some execution → IsFinished execution answer after
+    → stands ≡ state_finished answer
     → IsFleetPlan (record { net = inside.net; execution = Some after; state = stands })
 finished_is_plan inside answer execution after stands is runs was finishes same =
     let before = is.runs runs in
@@ -123,7 +127,7 @@ pub by_closed : (net : Plan) (closed : Closed) → IsInstant net → IsClosedBy 
 by_closed net closed instant is = record { instant = instant; closure = is.closure; ordered = is.order }
 
 pub may_dispatch : (net : Plan) (closed : Closed) → IsInstant net → IsClosedBy net closed → MayDispatch net closed.table closed.order
-may_dispatch net closed instant is = closures_may_dispatch net closed.table closed.order instant.sound is.closure is.order
+may_dispatch net closed instant is = law_closures_may_dispatch net closed.table closed.order instant.sound is.closure is.order
 
 pub dispatch_of : (net : Plan) (closed : Closed) → IsInstant net → IsClosedBy net closed → (lists : DispatchLists) → lists.links ≡ net.links → lists.made ≡ dispatchable net closed.table
     → IsDispatchOf net lists
@@ -131,7 +135,7 @@ dispatch_of net closed instant is lists links made = record {
   instant = instant;
   table = closed.table;
   order = closed.order;
-  graph = closures_are_graphs net closed.table instant.sound is.closure;
+  graph = law_closures_are_graphs net closed.table instant.sound is.closure;
   may = may_dispatch net closed instant is;
   links = links;
   made = made;

@@ -1,17 +1,17 @@
--- One plan of a fleet: its network, its execution where it is controllable, and how it stands. It is executed by its shown form, so the
--- moments of an execution are those at which completions are shown. This project's own choice.
+-- One plan of a fleet: its network, its execution if it is controllable, and how it stands. It is executed by its shown form, so the moments of an execution
+-- are those at which completions are shown. This project's own choice.
 use Rattle.std.specs.Prelude.{◌≡◌, ◌≢◌, ◌⊎◌, ℕ, List, length, Option, Some, None}
 use Rattle.net_model.specs.Network.{Plan}
 use Rattle.net_model.specs.ShownForm.{shown_form}
 use Rattle.net_model.specs.declared.ids.PointId.{PointId}
 use Rattle.strategy_model.specs.Control.{IsControllable}
 use Rattle.closure_model.specs.Tables.{Graph}
-use Rattle.execution_model.specs.Feeding.{Execution, started, IsFed, IsFinished}
+use Rattle.execution_model.specs.Feeds.{Execution, started, IsFed, IsFinished}
 use Rattle.execution_model.specs.Laws.{IsDispatchedByClosure, setting_of}
-use Rattle.execution_model.specs.declared.feeding.Fed.{Fed}
-use Rattle.execution_model.specs.declared.feeding.Fed.TheVariants as fed
-use Rattle.execution_model.specs.declared.feeding.Finished.{Finished}
-use Rattle.execution_model.specs.declared.feeding.Finished.TheVariants as finished
+use Rattle.execution_model.specs.declared.feed_answers.Fed.{Fed}
+use Rattle.execution_model.specs.declared.feed_answers.Fed.TheVariants as fed
+use Rattle.execution_model.specs.declared.feed_answers.Finished.{Finished}
+use Rattle.execution_model.specs.declared.feed_answers.Finished.TheVariants as finished
 use Rattle.plan_fleet.specs.declared.states.State.{State}
 use Rattle.plan_fleet.specs.declared.states.State.TheVariants as state
 use Rattle.plan_fleet.specs.declared.states.FleetFed.{FleetFed}
@@ -19,7 +19,7 @@ use Rattle.plan_fleet.specs.declared.states.FleetFed.TheVariants as fleet_fed
 use Rattle.plan_fleet.specs.declared.states.FleetFinished.{FleetFinished}
 use Rattle.plan_fleet.specs.declared.states.FleetFinished.TheVariants as fleet_finished
 
--- a plan of a fleet
+-- a plan of a fleet: its network as it is stated, its execution if it was started, and how it stands
 pub record FleetPlan : Type 0 where
   pub net : Plan
   pub execution : Option Execution
@@ -46,7 +46,7 @@ pub record IsRefutedAtFirst (net : Plan) (member : FleetPlan) : Type 0 where
   pub execution : member.execution ≡ None
   pub stands : member.state ≡ state.NotControllable
 
--- how a plan is opened: it runs exactly where it is controllable
+-- how a plan is opened: it runs exactly if it is controllable
 abbrev pub OpensTo : Plan → FleetPlan → Type 0
 OpensTo net member = (member.net ≡ net) × (IsRunningAtFirst net member ⊎ IsRefutedAtFirst net member)
 
@@ -75,7 +75,7 @@ pub record IsFedPlan (member : FleetPlan) (moment : ℕ) (listed : List PointId)
   pub feeds : IsFed execution moment listed answer then_execution
   pub is : after ≡ record { net = member.net; execution = Some then_execution; state = state_fed answer }
 
--- a feed of a plan: nothing changes exactly where it does not run
+-- a feed of a plan: nothing changes exactly if it does not run
 abbrev pub FeedsPlan : FleetPlan → (moment : ℕ) → List PointId → FleetFed → FleetPlan → Type 0
 FeedsPlan member moment listed (fleet_fed.Fed answer) after = IsFedPlan member moment listed answer after
 FeedsPlan member moment listed fleet_fed.Idle after = (member.state ≢ state.Running) × (after ≡ member)
@@ -89,7 +89,7 @@ pub record IsFinishedPlan (member : FleetPlan) (answer : Finished) (after : Flee
   pub finishes : IsFinished execution answer then_execution
   pub is : after ≡ record { net = member.net; execution = Some then_execution; state = state_finished answer }
 
--- the end of a plan: nothing changes exactly where it does not run
+-- the end of a plan: nothing changes exactly if it does not run
 abbrev pub FinishesPlan : FleetPlan → FleetFinished → FleetPlan → Type 0
 FinishesPlan member (fleet_finished.Finished answer) after = IsFinishedPlan member answer after
 FinishesPlan member fleet_finished.Idle after = (member.state ≢ state.Running) × (after ≡ member)

@@ -1,4 +1,4 @@
 pub mod Limits
 pub mod FleetPlans
 pub mod Fleets
-pub mod Openings
+pub mod FleetStart

@@ -3,8 +3,9 @@
 ghost use Rattle.std.specs.Prelude.{◌≡◌, ◌↔◌, ◌≤◌, length, Some, IsSome, IsTrue};
 ghost use Rattle.std.specs.List.{All};
 ghost use Rattle.net_model.specs.Network.{IsPoint};
-ghost use Rattle.execution_model.specs.Feeding.{Execution, IsDueAnswer};
-ghost use Rattle.plan_fleet.specs.FleetPlans.{FeedsPlan, FinishesPlan, EndsPlan, state_fed, state_finished};
+ghost use Rattle.execution_model.specs.Feeds.{Execution, IsDueAnswer};
+ghost use Rattle.plan_fleet.specs.FleetPlans.{FeedsPlan, FinishesPlan, EndsPlan, state_fed};
+ghost use Rattle.plan_fleet.specs.FleetPlans.{state_finished};
 
 use crate::states::{FleetFed, FleetFinished, State};
 use execution_model::{Act, Fed, Finished};
@@ -12,7 +13,7 @@ use live_executor::Executor;
 use net_model::{Network, PointId};
 use std::marker::Model;
 
-/// A plan of a fleet: its network, its executor where it is controllable, and how it stands.
+/// A plan of a fleet: its network, its executor if it is controllable, and how it stands.
 #[derive(Drop)]
 pub(crate) struct FleetPlan {
     pub(crate) net: Network,
@@ -25,9 +26,14 @@ impl Model for FleetPlan {
 
     ghost Value = { FleetPlan };
 
-    ghost view = { λ member. record { net = member.net; execution = member.executor; state = member.state } };
+    ghost view = { λ member. record {
+      net = member.net;
+      execution = member.executor;
+      state = member.state;
+    } };
 
-    ghost invariant = { λ member. IsFleetPlan (record { net = member.net; execution = member.executor; state = member.state }) };
+    ghost invariant = { λ member. IsFleetPlan
+        (record { net = member.net; execution = member.executor; state = member.state }) };
 }
 
 impl FleetPlan {
@@ -45,7 +51,7 @@ impl FleetPlan {
         self.executor.is_some()
     }
 
-    /// Feeds its executor, where it runs.
+    /// Feeds its executor, if it runs.
     pub(crate) fn feed(&mut self, moment: u64, completions: &[PointId]) -> FleetFed
         requires { All (IsPoint self.old.net) completions.now }
         ensures { FeedsPlan self.old moment completions.now result self.new }
@@ -61,7 +67,7 @@ impl FleetPlan {
         FleetFed::Fed(fed)
     }
 
-    /// Ends its execution, where it runs.
+    /// Ends its execution, if it runs.
     pub(crate) fn finish(&mut self) -> FleetFinished
         ensures { FinishesPlan self.old result self.new }
     {
@@ -76,7 +82,7 @@ impl FleetPlan {
         FleetFinished::Finished(finished)
     }
 
-    /// Ends it, where it runs.
+    /// Ends it, if it runs.
     pub(crate) fn end(&mut self)
         ensures { EndsPlan self.old self.new }
     {
@@ -88,7 +94,8 @@ impl FleetPlan {
     /// The acts of its executor.
     pub(crate) fn acts(&self) -> &[Act]
         requires { IsSome self.now.execution }
-        ensures value { (execution : Execution) → self.now.execution ≡ Some execution → result.now ≡ execution.acts }
+        ensures value { (execution : Execution) → self.now.execution ≡ Some execution
+            → result.now ≡ execution.acts }
         ensures few { length result.now ≤ length self.now.net.points }
     {
         match &self.executor {
@@ -100,7 +107,8 @@ impl FleetPlan {
     /// The next due moment of its executor.
     pub(crate) fn next_due(&self) -> Option<u64>
         requires { IsSome self.now.execution }
-        ensures { (execution : Execution) → self.now.execution ≡ Some execution → IsDueAnswer execution result }
+        ensures { (execution : Execution) → self.now.execution ≡ Some execution
+            → IsDueAnswer execution result }
     {
         match &self.executor {
             Some(executor) => executor.next_due(),

@@ -2,23 +2,23 @@
 use Rattle.std.proofs.Common.{◌≡◌, ℕ, ◌+◌, List, ◌++◌, length, drop, Some, Ok, Err, sym, ap, ◌∙◌, arith}
 use Rattle.std.proofs.Math.Seq.{drop-append_seam}
 use Rattle.net_model.specs.Network.{Plan}
-use Rattle.net_model.specs.Building.{built, delayed, declared_net, place_of}
+use Rattle.net_model.specs.BuiltNetwork.{built, delayed, declared_net, place_of}
 use Rattle.net_model.specs.declared.fault.BuildFault.{BuildFault}
 use Rattle.net_model.specs.declared.format.FormatFault.{FormatFault}
-use Rattle.plan_format.specs.PlanFaults.{IsFirstFault}
+use Rattle.plan_format.specs.PlanFaults.{IsFirstPlanFault}
 use Rattle.plan_format.specs.PlanNetwork.{DeclaresNetwork, RefusesPart, Reading, network, faulty, refused, IsReading}
-use Rattle.plan_format.specs.PlanReading.{begun}
+use Rattle.plan_format.specs.PlanReading.{initial}
 use Rattle.plan_format.proofs.GrammarLemmas.{Declared, read_from, plan_read}
 use Rattle.plan_format.proofs.FaultLemmas.{fault_is, fault_one}
 
 -- what is read of lines that declare a network, or of which a part is refused
-declared_of : (lines : List (List ℕ)) (net : Plan) (rest : List (List ℕ)) (is : DeclaresNetwork lines net rest) → read_from begun 1 lines ≡ Ok (record { delay = is.delay; parts = is.parts; lines = is.numbers; end = length is.plan })
+declared_of : (lines : List (List ℕ)) (net : Plan) (rest : List (List ℕ)) (is : DeclaresNetwork lines net rest) → read_from initial 1 lines ≡ Ok (record { delay = is.delay; parts = is.parts; lines = is.numbers; end = length is.plan })
 declared_of lines net rest is = plan_read lines is.plan rest is.delay is.parts is.numbers is.whole is.is_plan
 
-refused_of : (lines : List (List ℕ)) (line : ℕ) (fault : BuildFault) (is : RefusesPart lines line fault) → read_from begun 1 lines ≡ Ok (record { delay = is.delay; parts = is.parts; lines = is.numbers; end = length is.plan })
+refused_of : (lines : List (List ℕ)) (line : ℕ) (fault : BuildFault) (is : RefusesPart lines line fault) → read_from initial 1 lines ≡ Ok (record { delay = is.delay; parts = is.parts; lines = is.numbers; end = length is.plan })
 refused_of lines line fault is = plan_read lines is.plan is.rest is.delay is.parts is.numbers is.whole is.is_plan
 
-same_declared : (lines : List (List ℕ)) (a b : Declared) → read_from begun 1 lines ≡ Ok a → read_from begun 1 lines ≡ Ok b → a ≡ b
+same_declared : (lines : List (List ℕ)) (a b : Declared) → read_from initial 1 lines ≡ Ok a → read_from initial 1 lines ≡ Ok b → a ≡ b
 same_declared lines a b x y = cc
 
 rest_is : (lines plan rest : List (List ℕ)) → lines ≡ plan ++ rest → drop (length plan) lines ≡ rest
@@ -33,7 +33,7 @@ network_one lines net other rest after is also =
     let rest_one : rest ≡ after = sym (rest_is lines is.plan rest is.whole) ∙ (cut ∙ rest_is lines also.plan after also.whole) in
     cc
 
-no_fault : (lines : List (List ℕ)) (declared : Declared) (fault : FormatFault) → read_from begun 1 lines ≡ Ok declared → IsFirstFault lines fault → ⊥
+no_fault : (lines : List (List ℕ)) (declared : Declared) (fault : FormatFault) → read_from initial 1 lines ≡ Ok declared → IsFirstPlanFault lines fault → ⊥
 no_fault lines declared fault good first = let bad = fault_is lines fault first in absurd (cc)
 
 no_refusal : (lines : List (List ℕ)) (net : Plan) (rest : List (List ℕ)) (line : ℕ) (fault : BuildFault) → DeclaresNetwork lines net rest → RefusesPart lines line fault → ⊥

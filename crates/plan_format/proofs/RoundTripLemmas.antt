@@ -12,20 +12,20 @@ use Rattle.net_model.specs.NetworkParts.{bound_part, link_part, parts_of, IsDecl
 use Rattle.texts.specs.Words.{words}
 use Rattle.texts.specs.Lines.{lines}
 use Rattle.texts.specs.Lines.{size_of_lines}
-use Rattle.texts.specs.Printing.{joined, printed}
+use Rattle.texts.specs.PrintedLines.{joined, printed}
 use Rattle.net_model.specs.declared.part.Part.{Part}
 use Rattle.net_model.specs.declared.part.Part.TheVariants as part
 use Rattle.texts.proofs.LineLemmas.{size_of_lines-other, size_of_lines-end, size_of_lines-nil}
-use Rattle.texts.proofs.PrintingLemmas.{IsPrintable, IsPrintableLine, words-joined, plain-joined, lines-printed}
-use Rattle.net_model.proofs.SpellingLemmas.{printable_name, printable_natural, printable_integer}
+use Rattle.texts.proofs.PrintedLineLemmas.{IsPrintable, IsPrintableLine, words-joined, plain-joined, lines-printed}
+use Rattle.net_model.proofs.DecimalSpellingLemmas.{printable_name, printable_natural, printable_integer}
 use Rattle.plan_format.specs.declared.plan_line.PlanLine.TheVariants as line
-use Rattle.plan_format.specs.PlanGrammar.{IsBlank, IsLine, IsBegun, header, delays, declares, IsPlanText}
+use Rattle.plan_format.specs.PlanGrammar.{IsBlank, IsPlanLine, IsPartialPlan, header, delays, declares, IsPlanText}
 use Rattle.plan_format.specs.PlanNetwork.{DeclaresNetwork}
 use Rattle.plan_format.specs.declared.version.PlanStage.{PlanStage}
-use Rattle.plan_format.specs.declared.version.PlanStage.TheVariants.{Opened, Going}
+use Rattle.plan_format.specs.declared.version.PlanStage.TheVariants.{Opened, PastDelay}
 use Rattle.plan_format.specs.declared.version.PlanVersion.{PlanVersion}
 use Rattle.plan_format.specs.declared.version.PlanVersion.TheVariants.{Two}
-use Rattle.plan_format.specs.PlanParts.{part_words, delay_words, header_words, end_words}
+use Rattle.plan_format.specs.PlanParts.{part_words, delay_words, plan_header_words, end_words}
 use Rattle.plan_format.specs.PlanPrinting.{delay_lines, plan_words, printed_plan, ReadsBack}
 use Rattle.net_model.proofs.PartsLemmas.{parts_declare}
 use Rattle.plan_format.proofs.StepLemmas.{one_more}
@@ -73,15 +73,15 @@ printable_parts (p ∷ parts) spelled = (printable_part p spelled.0, printable_p
 printable_delay : (delay : ℕ) → delay ≤ most_delay → IsPrintableLine (delay_words delay)
 printable_delay delay short = (literal_delay, (printable_natural delay (omega arith), tt))
 
-printable_told : (none : Bool) (delay : ℕ) (others : List (List (List ℕ))) → delay ≤ most_delay → AllByRecursion IsPrintableLine others → AllByRecursion IsPrintableLine (cond none [] (delay_words delay ∷ []) ++ others)
-printable_told true delay others short printable = printable
-printable_told false delay others short printable = (printable_delay delay short, printable)
+printable_delay_lines : (none : Bool) (delay : ℕ) (others : List (List (List ℕ))) → delay ≤ most_delay → AllByRecursion IsPrintableLine others → AllByRecursion IsPrintableLine (cond none [] (delay_words delay ∷ []) ++ others)
+printable_delay_lines true delay others short printable = printable
+printable_delay_lines false delay others short printable = (printable_delay delay short, printable)
 
 printable_plan : (delay : ℕ) (parts : List Part) → delay ≤ most_delay → AllByRecursion IsDeclarable parts → AllByRecursion IsPrintableLine (plan_words delay parts)
 printable_plan delay parts short spelled =
-    ((literal_stnu, (literal_two, tt)), printable_told (delay == 0) delay (map part_words parts ++ end_words ∷ []) short (printable_parts parts spelled))
+    ((literal_stnu, (literal_two, tt)), printable_delay_lines (delay == 0) delay (map part_words parts ++ end_words ∷ []) short (printable_parts parts spelled))
 
--- the numbers of the lines of parts that stand one after another
+-- the numbers of the lines of parts that follow one another
 abbrev pub numbers_from : ℕ → List Part → List ℕ
 numbers_from number [] = []
 numbers_from number (p ∷ parts) = number ∷ numbers_from (number + 1) parts
@@ -89,27 +89,33 @@ numbers_from number (p ∷ parts) = number ∷ numbers_from (number + 1) parts
 line_back : (l : List (List ℕ)) → IsPrintableLine l → words (joined l) ≡ l
 line_back l printable = words-joined l printable
 
-begun_is : (version : PlanVersion) (stage : PlanStage) (lines text : List (List ℕ)) (delay : ℕ) (parts ps : List Part) (numbers ns : List ℕ) → lines ≡ text → parts ≡ ps → numbers ≡ ns → IsBegun version stage lines delay parts numbers → IsBegun version stage text delay ps ns
-begun_is version stage lines text delay parts ps numbers ns e p n begun =
-    subst (λ (ls : List (List ℕ)). IsBegun version stage ls delay ps ns) e (subst (λ (qs : List Part). IsBegun version stage lines delay qs ns) p (subst (λ (ms : List ℕ). IsBegun version stage lines delay parts ms) n begun))
+partial_plan_is : (version : PlanVersion) (stage : PlanStage) (lines text : List (List ℕ)) (delay : ℕ) (parts ps : List Part) (numbers ns : List ℕ) → lines ≡ text → parts ≡ ps → numbers ≡ ns
+    → IsPartialPlan version stage lines delay parts numbers → IsPartialPlan version stage text delay ps ns
+partial_plan_is version stage lines text delay parts ps numbers ns e p n initial =
+    subst (λ (ls : List (List ℕ)). IsPartialPlan version stage ls delay ps ns) e (subst (λ (qs : List Part). IsPartialPlan version stage lines delay qs ns) p
+    (subst (λ (ms : List ℕ). IsPartialPlan version stage lines delay parts ms) n initial))
 
--- lines that have begun, however far they are
-HasBegun : PlanVersion → List (List ℕ) → ℕ → List Part → List ℕ → Type 0
-HasBegun version lines delay parts numbers = (stage : PlanStage) × IsBegun version stage lines delay parts numbers
+-- a header and other lines, however far they are
+HasPartialPlan : PlanVersion → List (List ℕ) → ℕ → List Part → List ℕ → Type 0
+HasPartialPlan version lines delay parts numbers = (stage : PlanStage) × IsPartialPlan version stage lines delay parts numbers
 
--- printed lines of parts after lines that have begun
-begun_with : (version : PlanVersion) (stage : PlanStage) (before : List (List ℕ)) (delay : ℕ) (ps : List Part) (ns : List ℕ) (parts : List Part) → AllByRecursion IsDeclarable parts → IsBegun version stage before delay ps ns → HasBegun version (before ++ map joined (map part_words parts)) delay (ps ++ parts) (ns ++ numbers_from (length before + 1) parts)
-unfolding HasBegun
-begun_with version stage before delay ps ns [] spelled begun = (stage, rw (append-nil before, append-nil ps, append-nil ns) begun)
-begun_with version stage before delay ps ns (p ∷ parts) spelled begun =
+-- printed lines of parts after a header and other lines
+partial_plan_with : (version : PlanVersion) (stage : PlanStage) (before : List (List ℕ)) (delay : ℕ) (ps : List Part) (ns : List ℕ) (parts : List Part) → AllByRecursion IsDeclarable parts → IsPartialPlan version stage before delay ps ns
+    → HasPartialPlan version (before ++ map joined (map part_words parts)) delay (ps ++ parts) (ns ++ numbers_from (length before + 1) parts)
+unfolding HasPartialPlan
+partial_plan_with version stage before delay ps ns [] spelled initial = (stage, rw (append-nil before, append-nil ps, append-nil ns) initial)
+partial_plan_with version stage before delay ps ns (p ∷ parts) spelled initial =
     let text : List ℕ = joined (part_words p) in
     let others : List (List ℕ) = map joined (map part_words parts) in
     let number : ℕ = length before + 1 in
-    let is : IsLine version (line.Part p) text = (line_back (part_words p) (printable_part p spelled.0), spelled.0) in
-    let one : IsBegun version Going (before ++ text ∷ []) delay (ps ++ p ∷ []) (ns ++ number ∷ []) = declares stage before text delay ps (p ∷ []) ns begun (inl (p, refl, is)) in
-    let all = begun_with version Going (before ++ text ∷ []) delay (ps ++ p ∷ []) (ns ++ number ∷ []) parts spelled.1 one in
-    let size : length (before ++ text ∷ []) + 1 ≡ number + 1 = ap (λ (n : ℕ). n + 1) (sym (one_more before text)) in
-    (all.0, begun_is version all.0 _ _ delay _ _ _ _ (append_assoc before (text ∷ []) others) (append_assoc ps (p ∷ []) parts) (append_assoc ns (number ∷ []) (numbers_from (length (before ++ text ∷ []) + 1) parts) ∙ ap (λ (n : ℕ). ns ++ number ∷ numbers_from n parts) size) all.1)
+    let is : IsPlanLine version (line.Part p) text = (line_back (part_words p) (printable_part p spelled.0), spelled.0) in
+    let one : IsPartialPlan version PastDelay (before ++ text ∷ []) delay (ps ++ p ∷ []) (ns ++ number ∷ []) = declares stage before text delay ps (p ∷ []) ns initial (inl (p, refl, is)) in
+    let all = partial_plan_with version PastDelay (before ++ text ∷ []) delay (ps ++ p ∷ []) (ns ++ number ∷ []) parts spelled.1 one in
+    let size : length (before ++ text ∷ []) + 1 ≡ number + 1 = ap (λ (n : ℕ). n + 1) (sym (one_more before text)) in (
+      all.0,
+      partial_plan_is version all.0 _ _ delay _ _ _ _ (append_assoc before (text ∷ []) others) (append_assoc ps (p ∷ []) parts) (append_assoc ns (number ∷ []) (numbers_from (length (before ++ text ∷ []) + 1) parts)
+          ∙ ap (λ (n : ℕ). ns ++ number ∷ numbers_from n parts) size) all.1,
+    )
 
 -- the bytes of a line and its line end
 size_of_line : (count : ℕ) (bytes rest : List ℕ) → AllByRecursion (λ byte. 31 < byte) bytes → size_of_lines (count + 1) (bytes ++ 10 ∷ rest) ≡ length bytes + 1 + size_of_lines count rest
@@ -134,50 +140,51 @@ pub first_number : ℕ → ℕ
 first_number delay = length (delay_lines delay) + 2
 
 -- the header and the line of the delay
-front_lines : ℕ → List (List ℕ)
-front_lines delay = joined (header_words Two) ∷ map joined (delay_lines delay)
+prefix_lines : ℕ → List (List ℕ)
+prefix_lines delay = joined (plan_header_words Two) ∷ map joined (delay_lines delay)
 
-front_told : (none : Bool) (delay : ℕ) → (delay == 0) ≡ none → delay ≤ most_delay → HasBegun Two (joined (header_words Two) ∷ map joined (cond none [] (delay_words delay ∷ []))) delay [] []
-unfolding HasBegun
-front_told none delay is short =
-    let first : List ℕ = joined (header_words Two) in
-    let heads : words first ≡ header_words Two = line_back (header_words Two) (literal_stnu, (literal_two, tt)) in
-    let begun : IsBegun Two Opened (first ∷ []) 0 [] [] = header [] first (All-nil IsBlank) heads in
-    told none is first begun
+prefix_stated : (none : Bool) (delay : ℕ) → (delay == 0) ≡ none → delay ≤ most_delay → HasPartialPlan Two (joined (plan_header_words Two) ∷ map joined (cond none [] (delay_words delay ∷ []))) delay [] []
+unfolding HasPartialPlan
+prefix_stated none delay is short =
+    let first : List ℕ = joined (plan_header_words Two) in
+    let heads : words first ≡ plan_header_words Two = line_back (plan_header_words Two) (literal_stnu, (literal_two, tt)) in
+    let initial : IsPartialPlan Two Opened (first ∷ []) 0 [] [] = header [] first (All-nil IsBlank) heads in
+    stated none is first initial
   where
-    told : (none : Bool) → (delay == 0) ≡ none → (first : List ℕ) → IsBegun Two Opened (first ∷ []) 0 [] [] → (stage : PlanStage) × IsBegun Two stage (first ∷ map joined (cond none [] (delay_words delay ∷ []))) delay [] []
-    told true is first begun =
+    stated : (none : Bool) → (delay == 0) ≡ none → (first : List ℕ) → IsPartialPlan Two Opened (first ∷ []) 0 [] [] → (stage : PlanStage) × IsPartialPlan Two stage (first ∷ map joined (cond none [] (delay_words delay ∷ []))) delay [] []
+    stated true is first initial =
         let zero_delay : delay ≡ 0 = eqb-true delay 0 is in
-        (Opened, rw zero_delay begun)
-    told false is first begun =
+        (Opened, rw zero_delay initial)
+    stated false is first initial =
         let text : List ℕ = joined (delay_words delay) in
-        (Going, delays (first ∷ []) text 0 delay [] [] begun (refl, delay, refl, line_back (delay_words delay) (printable_delay delay short), short))
+        (PastDelay, delays (first ∷ []) text 0 delay [] [] initial (refl, delay, refl, line_back (delay_words delay) (printable_delay delay short), short))
 
-front_begun : (delay : ℕ) → delay ≤ most_delay → HasBegun Two (front_lines delay) delay [] []
-unfolding front_lines
-front_begun delay short = front_told (delay == 0) delay refl short
+initial_prefix : (delay : ℕ) → delay ≤ most_delay → HasPartialPlan Two (prefix_lines delay) delay [] []
+unfolding prefix_lines
+initial_prefix delay short = prefix_stated (delay == 0) delay refl short
 
-front_size : (delay : ℕ) → length (front_lines delay) + 1 ≡ first_number delay
-unfolding front_lines first_number
-front_size delay = omega (arith, length-map (delay_lines delay) joined)
+prefix_size : (delay : ℕ) → length (prefix_lines delay) + 1 ≡ first_number delay
+unfolding prefix_lines first_number
+prefix_size delay = omega (arith, length-map (delay_lines delay) joined)
 
 -- the printed lines of a delay and of parts that can be spelled are a plan text
 plan_printed : (delay : ℕ) (parts : List Part) → delay ≤ most_delay → AllByRecursion IsDeclarable parts → IsPlanText (map joined (plan_words delay parts)) delay parts (numbers_from (first_number delay) parts)
-unfolding HasBegun front_lines
+unfolding HasPartialPlan prefix_lines
 plan_printed delay parts short spelled =
-    let told : List (List ℕ) = map joined (delay_lines delay) in
-    let first : List ℕ = joined (header_words Two) in
+    let stated : List (List ℕ) = map joined (delay_lines delay) in
+    let first : List ℕ = joined (plan_header_words Two) in
     let middle : List (List ℕ) = map joined (map part_words parts) in
-    let front = front_begun delay short in
-    let all = begun_with Two front.0 (first ∷ told) delay [] [] parts spelled front.1 in
-    let lines : map joined (delay_lines delay ++ (map part_words parts ++ end_words ∷ [])) ≡ told ++ (middle ++ joined end_words ∷ []) = map-append joined (delay_lines delay) (map part_words parts ++ end_words ∷ []) ∙ ap (λ (ls : List (List ℕ)). told ++ ls) (map-append joined (map part_words parts) (end_words ∷ [])) in
+    let prefix = initial_prefix delay short in
+    let all = partial_plan_with Two prefix.0 (first ∷ stated) delay [] [] parts spelled prefix.1 in
+    let lines : map joined (delay_lines delay ++ (map part_words parts ++ end_words ∷ [])) ≡ stated ++ (middle ++ joined end_words ∷ []) = map-append joined (delay_lines delay) (map part_words parts ++ end_words ∷ [])
+    ∙ ap (λ (ls : List (List ℕ)). stated ++ ls) (map-append joined (map part_words parts) (end_words ∷ [])) in
     record {
       version = Two;
       stage = all.0;
-      begun = first ∷ (told ++ middle);
+      initial = first ∷ (stated ++ middle);
       last = joined end_words;
-      whole = ap (λ (ls : List (List ℕ)). first ∷ ls) (lines ∙ sym (append_assoc told middle (joined end_words ∷ [])));
-      begins = subst (λ (n : ℕ). IsBegun Two all.0 (first ∷ (told ++ middle)) delay parts (numbers_from n parts)) (front_size delay) all.1;
+      whole = ap (λ (ls : List (List ℕ)). first ∷ ls) (lines ∙ sym (append_assoc stated middle (joined end_words ∷ [])));
+      begins = subst (λ (n : ℕ). IsPartialPlan Two all.0 (first ∷ (stated ++ middle)) delay parts (numbers_from n parts)) (prefix_size delay) all.1;
       ends = line_back end_words printable_end;
     }
 
@@ -199,7 +206,8 @@ spelled_parts net plan numbers =
     let few = leb-true (unsigned_abs (get_or net.links k d).high) most_number (numbers.links k d inside) in
     let smaller = size_below (get_or net.links k d).low (get_or net.links k d).high l.positive l.interval in
     (spelled_name net plan _ l.from_point, le-leb (unsigned_abs (get_or net.links k d).low) most_number (omega (arith, few, smaller)), numbers.links k d inside, spelled_name net plan _ l.to_point))) in
-    recursion_from_All IsDeclarable (parts_of net) (All-append IsDeclarable (map part.Point net.points) (map (bound_part net.points) net.bounds ++ map (link_part net.points) net.links) points (All-append IsDeclarable (map (bound_part net.points) net.bounds) (map (link_part net.points) net.links) bounds links))
+    recursion_from_All IsDeclarable (parts_of net) (All-append IsDeclarable (map part.Point net.points) (map (bound_part net.points) net.bounds ++ map (link_part net.points) net.links) points
+    (All-append IsDeclarable (map (bound_part net.points) net.bounds) (map (link_part net.points) net.links) bounds links))
 
 -- the printed text of a network is read back
 pub reads_back : (net : Plan) → IsPlan net → HasPlanNumbers net → ReadsBack (printed_plan net) net
@@ -222,10 +230,10 @@ reads_back net plan numbers =
         split = lines-printed all_words printable ∙ sym (append-nil all);
         plan = plan_printed net.delay parts plan.short_delay spelled;
         used = sym size ∙ ap (λ (n : ℕ). size_of_lines n text) (sym count);
-        told = refl;
+        stated = refl;
       };
       whole = refl;
-      told = refl;
+      stated = refl;
       same = parts_declare net plan numbers;
     }
 

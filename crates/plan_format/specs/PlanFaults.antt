@@ -16,8 +16,8 @@ use Rattle.plan_format.specs.declared.version.PlanStage.{PlanStage}
 use Rattle.plan_format.specs.declared.version.PlanStage.TheVariants.{Opened}
 use Rattle.plan_format.specs.declared.version.PlanVersion.{PlanVersion}
 use Rattle.plan_format.specs.PlanForms.{form_after}
-use Rattle.plan_format.specs.PlanParts.{header_words}
-use Rattle.plan_format.specs.PlanGrammar.{IsBlank, IsBegun, IsPlanText}
+use Rattle.plan_format.specs.PlanParts.{plan_header_words}
+use Rattle.plan_format.specs.PlanGrammar.{IsBlank, IsPartialPlan, IsPlanText}
 
 -- the first departure of the words of a line from the forms of the lines after the header of a version
 abbrev pub Departs : PlanVersion → PlanStage → List (List ℕ) → FormatKind → Type 0
@@ -27,7 +27,7 @@ Departs version stage (first ∷ others) kind = DepartsFrom (places_of (form_aft
 -- the fault of a line that is read alone: it is no blank line and no header, and departs from the forms of the other lines
 pub record IsFaultAlone (version : PlanVersion) (words : List (List ℕ)) (kind : FormatKind) : Type 0 where
   pub filled : are_passed_over words ≡ false
-  pub no_header : (said : PlanVersion) → words ≢ header_words said
+  pub no_header : (said : PlanVersion) → words ≢ plan_header_words said
   pub departs : Departs version Opened words kind
 
 -- the fault of a line that is read alone, which takes no memory
@@ -40,8 +40,8 @@ abbrev pub CanBecomePlan : List (List ℕ) → Type 0
 CanBecomePlan text = (more : List (List ℕ)) × (delay : ℕ) × (parts : List Part) × (numbers : List ℕ) × IsPlanText (text ++ more) delay parts numbers
 
 -- a plan text may begin with these lines and one more
-abbrev pub GoesOn : List (List ℕ) → Type 0
-GoesOn text = (next : List ℕ) × CanBecomePlan (text ++ next ∷ [])
+abbrev pub PlanGoesOn : List (List ℕ) → Type 0
+PlanGoesOn text = (next : List ℕ) × CanBecomePlan (text ++ next ∷ [])
 
 -- no plan text begins with these lines and the first of the others, if there is one
 abbrev pub ExcludesPlan : List (List ℕ) → List (List ℕ) → Type 0
@@ -57,19 +57,20 @@ StopsAfterHeader version stage (next ∷ others) kind = Departs version stage (w
 abbrev pub Stops : List (List ℕ) → List (List ℕ) → FormatKind → Type 0
 Stops before rest kind =
     (All IsBlank before × (kind ≡ NoHeader))
-    ⊎ ((version : PlanVersion) × (stage : PlanStage) × (delay : ℕ) × (parts : List Part) × (numbers : List ℕ) × IsBegun version stage before delay parts numbers × StopsAfterHeader version stage rest kind)
+    ⊎ ((version : PlanVersion) × (stage : PlanStage) × (delay : ℕ) × (parts : List Part) × (numbers : List ℕ)
+    × IsPartialPlan version stage before delay parts numbers × StopsAfterHeader version stage rest kind)
 
--- the first fault of a text: a plan text may go on after the lines before it, and not with its line
-pub record IsFirstFault (text : List (List ℕ)) (fault : FormatFault) : Type 0 where
+-- the first fault of a text: a plan text may continue after the lines before it, and not with its line
+pub record IsFirstPlanFault (text : List (List ℕ)) (fault : FormatFault) : Type 0 where
   pub before : List (List ℕ)
   pub rest : List (List ℕ)
   pub whole : text ≡ before ++ rest
   pub at_line : fault.line ≡ length before + 1
-  pub possible : GoesOn before
+  pub possible : PlanGoesOn before
   pub refused : ExcludesPlan before rest
   pub stops : Stops before rest fault.kind
 
 -- a fault of the bytes, or want of memory
-abbrev pub IsFaultOf : List ℕ → TextFault → Type 0
-IsFaultOf bytes (text.Format fault) = IsFirstFault (lines bytes) fault
-IsFaultOf bytes text.OutOfMemory = Unit {0}
+abbrev pub IsPlanTextFault : List ℕ → TextFault → Type 0
+IsPlanTextFault bytes (text.Format fault) = IsFirstPlanFault (lines bytes) fault
+IsPlanTextFault bytes text.OutOfMemory = Unit {0}

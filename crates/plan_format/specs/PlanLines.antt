@@ -14,19 +14,19 @@ use Rattle.plan_format.specs.declared.plan_line.PlanLine.{PlanLine}
 use Rattle.plan_format.specs.declared.plan_line.PlanLine.TheVariants as line
 
 -- the line after `stnu`: the version of the text
-abbrev pub header_line : List (List ℕ) → Result PlanLine FormatKind
-header_line (word ∷ []) =
+abbrev pub plan_header_line : List (List ℕ) → Result PlanLine FormatKind
+plan_header_line (word ∷ []) =
     if bytes_eq word (version_word One) then Ok (line.Header 1)
     else (if bytes_eq word (version_word Two) then Ok (line.Header 2)
     else Err UnknownWord)
-header_line others = Err UnknownWord
+plan_header_line others = Err UnknownWord
 
 -- a line by its first word
-abbrev pub line_by_word : PlanVersion → PlanStage → List ℕ → List (List ℕ) → Result PlanLine FormatKind
-line_by_word version stage first others =
-    if bytes_eq first (codes "stnu") then header_line others else read_as (form_after version stage first) others
+abbrev pub plan_line_by_word : PlanVersion → PlanStage → List ℕ → List (List ℕ) → Result PlanLine FormatKind
+plan_line_by_word version stage first others =
+    if bytes_eq first (codes "stnu") then plan_header_line others else read_as (form_after version stage first) others
 
 -- a line of a plan text, read alone
 unfoldable pub plan_line : PlanVersion → PlanStage → List (List ℕ) → Result PlanLine FormatKind
 plan_line version stage [] = Ok line.Blank
-plan_line version stage (first ∷ others) = if is_remark first then Ok line.Blank else line_by_word version stage first others
+plan_line version stage (first ∷ others) = if is_remark first then Ok line.Blank else plan_line_by_word version stage first others

@@ -19,23 +19,23 @@ use Rattle.plan_format.specs.declared.section.PlanSection.TheVariants as section
 use Rattle.plan_format.specs.declared.read.Parts.{Parts}
 use Rattle.plan_format.specs.PlanLines.{plan_line}
 use Rattle.plan_format.specs.declared.version.PlanStage.{PlanStage}
-use Rattle.plan_format.specs.declared.version.PlanStage.TheVariants.{Opened, Going}
+use Rattle.plan_format.specs.declared.version.PlanStage.TheVariants.{Opened, PastDelay}
 use Rattle.plan_format.specs.declared.version.PlanVersion.{PlanVersion}
 use Rattle.plan_format.specs.declared.version.PlanVersion.TheVariants.{One}
 use Rattle.plan_format.specs.PlanParts.{version_numbered}
-use Rattle.plan_format.specs.PlanGrammar.{IsBlank, IsBegun, IsPlanText, ReadsPlan}
-use Rattle.plan_format.specs.PlanFaults.{IsFirstFault, IsFaultOf}
+use Rattle.plan_format.specs.PlanGrammar.{IsBlank, IsPartialPlan, IsPlanText, ReadsPlan}
+use Rattle.plan_format.specs.PlanFaults.{IsFirstPlanFault, IsPlanTextFault}
 
 -- what was read: the section that is reached, the delay, the parts, and the number of the line of each
-pub record Progress : Type 0 where
+pub record PlanProgress : Type 0 where
   pub section : PlanSection
   pub delay : ℕ
   pub parts : List Part
   pub lines : List ℕ
 
 -- before the first line
-abbrev pub begun : Progress
-begun = record { section = section.Header; delay = 0; parts = []; lines = [] }
+abbrev pub initial : PlanProgress
+initial = record { section = section.Header; delay = 0; parts = []; lines = [] }
 
 -- a line in a section, where `read` is what the line is alone
 abbrev pub in_section : PlanSection → Result PlanLine FormatKind → Result PlanLine FormatKind
@@ -46,108 +46,109 @@ in_section section.Header (Ok (line.Delay moments)) = Err NoHeader
 in_section section.Header (Ok (line.Between name from low high to)) = Err NoHeader
 in_section section.Header (Ok line.End) = Err NoHeader
 in_section section.Header (Err kind) = Err NoHeader
-in_section (section.Begun version stage) (Ok line.Blank) = Ok line.Blank
-in_section (section.Begun version stage) (Ok (line.Header number)) = Err UnknownWord
-in_section (section.Begun version stage) (Ok (line.Part part)) = Ok (line.Part part)
-in_section (section.Begun version stage) (Ok (line.Delay moments)) = Ok (line.Delay moments)
-in_section (section.Begun version stage) (Ok (line.Between name from low high to)) = Ok (line.Between name from low high to)
-in_section (section.Begun version stage) (Ok line.End) = Ok line.End
-in_section (section.Begun version stage) (Err kind) = Err kind
+in_section (section.Started version stage) (Ok line.Blank) = Ok line.Blank
+in_section (section.Started version stage) (Ok (line.Header number)) = Err UnknownWord
+in_section (section.Started version stage) (Ok (line.Part part)) = Ok (line.Part part)
+in_section (section.Started version stage) (Ok (line.Delay moments)) = Ok (line.Delay moments)
+in_section (section.Started version stage) (Ok (line.Between name from low high to)) = Ok (line.Between name from low high to)
+in_section (section.Started version stage) (Ok line.End) = Ok line.End
+in_section (section.Started version stage) (Err kind) = Err kind
 
 -- the version by which a line in a section is read, and how far the text is
 abbrev pub version_in : PlanSection → PlanVersion
 version_in section.Header = One
-version_in (section.Begun version stage) = version
+version_in (section.Started version stage) = version
 
+-- how far the text is in a section
 abbrev pub stage_in : PlanSection → PlanStage
 stage_in section.Header = Opened
-stage_in (section.Begun version stage) = stage
+stage_in (section.Started version stage) = stage
 
 -- a line in a section, by its words
-abbrev pub line_in : PlanSection → List (List ℕ) → Result PlanLine FormatKind
-line_in section words = in_section section (plan_line (version_in section) (stage_in section) words)
+abbrev pub plan_line_in : PlanSection → List (List ℕ) → Result PlanLine FormatKind
+plan_line_in section words = in_section section (plan_line (version_in section) (stage_in section) words)
 
--- the numbers of a line that was read, as far as they are told in another form: those of a delay and of two bounds
-abbrev pub IsWithin : PlanLine → Type 0
-IsWithin (line.Delay moments) = unsigned_abs moments ≤ most_delay
-IsWithin (line.Between name from low high to) = (length name ≤ most_short) × (within_limit low ≡ true)
-IsWithin others = Unit {0}
+-- the numbers of a line that was read, as far as they are given in another form: those of a delay and of two bounds
+abbrev pub IsLineWithin : PlanLine → Type 0
+IsLineWithin (line.Delay moments) = unsigned_abs moments ≤ most_delay
+IsLineWithin (line.Between name from low high to) = (length name ≤ most_short) × (within_limit low ≡ true)
+IsLineWithin others = Unit {0}
 
--- the section after a line that tells something
-abbrev pub gone_on : PlanSection → PlanSection
-gone_on section.Header = section.Header
-gone_on (section.Begun version stage) = section.Begun version Going
+-- the section after a line that is not blank
+abbrev pub past_delay : PlanSection → PlanSection
+past_delay section.Header = section.Header
+past_delay (section.Started version stage) = section.Started version PastDelay
 
 -- with parts more, which this line declares
-abbrev pub with_more : Progress → ℕ → List Part → Progress
+abbrev pub with_more : PlanProgress → ℕ → List Part → PlanProgress
 with_more read number more =
-    record read { section = gone_on read.section; parts = read.parts ++ more; lines = read.lines ++ map (λ part. number) more }
+    record read { section = past_delay read.section; parts = read.parts ++ more; lines = read.lines ++ map (λ part. number) more }
 
 -- with one line more, which has this number
-abbrev pub advanced : Progress → ℕ → PlanLine → Progress
-advanced read number line.Blank = read
-advanced read number (line.Header version) = record read { section = section.Begun (version_numbered version) Opened }
-advanced read number (line.Part part) = with_more read number (part ∷ [])
-advanced read number (line.Delay moments) = record read { section = gone_on read.section; delay = unsigned_abs moments }
-advanced read number (line.Between name from low high to) = with_more read number (between_parts name from low high to)
-advanced read number line.End = read
+abbrev pub advanced_plan : PlanProgress → ℕ → PlanLine → PlanProgress
+advanced_plan read number line.Blank = read
+advanced_plan read number (line.Header version) = record read { section = section.Started (version_numbered version) Opened }
+advanced_plan read number (line.Part part) = with_more read number (part ∷ [])
+advanced_plan read number (line.Delay moments) = record read { section = past_delay read.section; delay = unsigned_abs moments }
+advanced_plan read number (line.Between name from low high to) = with_more read number (between_parts name from low high to)
+advanced_plan read number line.End = read
 
 -- the fault of a text that ends in a section
 abbrev pub missing : PlanSection → FormatKind
 missing section.Header = NoHeader
-missing (section.Begun version stage) = NoEnd
+missing (section.Started version stage) = NoEnd
 
 -- the answer is what the line says, unless memory ran out
-abbrev pub SaysLine : Result PlanLine WordFault → Result PlanLine FormatKind → Type 0
-SaysLine (Ok said) read = read ≡ Ok said
-SaysLine (Err (word.Kind kind)) read = read ≡ Err kind
-SaysLine (Err word.OutOfMemory) read = Unit {0}
+abbrev pub SaysPlanLine : Result PlanLine WordFault → Result PlanLine FormatKind → Type 0
+SaysPlanLine (Ok said) read = read ≡ Ok said
+SaysPlanLine (Err (word.Kind kind)) read = read ≡ Err kind
+SaysPlanLine (Err word.OutOfMemory) read = Unit {0}
 
--- what lines of a section are, by the grammar: blank ones before the header, or a text that has begun
-abbrev pub IsReached : PlanSection → List (List ℕ) → ℕ → List Part → List ℕ → Type 0
-IsReached section.Header lines delay parts numbers = All IsBlank lines × (delay ≡ 0) × (parts ≡ []) × (numbers ≡ [])
-IsReached (section.Begun version stage) lines delay parts numbers = IsBegun version stage lines delay parts numbers
+-- what lines of a section are, by the grammar: blank ones before the header, or a text with its header
+abbrev pub IsPlanReached : PlanSection → List (List ℕ) → ℕ → List Part → List ℕ → Type 0
+IsPlanReached section.Header lines delay parts numbers = All IsBlank lines × (delay ≡ 0) × (parts ≡ []) × (numbers ≡ [])
+IsPlanReached (section.Started version stage) lines delay parts numbers = IsPartialPlan version stage lines delay parts numbers
 
 -- these lines were read, with which a plan text may begin, and this is what they declare
-abbrev pub IsFront : List (List ℕ) → Progress → Type 0
-IsFront lines read = IsReached read.section lines read.delay read.parts read.lines
+abbrev pub IsPrefix : List (List ℕ) → PlanProgress → Type 0
+IsPrefix lines read = IsPlanReached read.section lines read.delay read.parts read.lines
 
 -- a fault in the line after these
 abbrev pub fault_after : List (List ℕ) → FormatKind → FormatFault
 fault_after lines kind = record { line = length lines + 1; kind = kind }
 
--- what one line more brings: its text goes on, or has ended, or has its first fault there
-abbrev pub Brings : List (List ℕ) → List ℕ → Result PlanLine WordFault → Progress → Type 0
-Brings before next (Ok line.Blank) read = IsFront (before ++ next ∷ []) read
-Brings before next (Ok (line.Header version)) read = IsFront (before ++ next ∷ []) read
-Brings before next (Ok (line.Part part)) read = IsFront (before ++ next ∷ []) read
-Brings before next (Ok (line.Delay moments)) read = IsFront (before ++ next ∷ []) read
-Brings before next (Ok (line.Between name from low high to)) read = IsFront (before ++ next ∷ []) read
-Brings before next (Ok line.End) read = IsPlanText (before ++ next ∷ []) read.delay read.parts read.lines
-Brings before next (Err (word.Kind kind)) read = (more : List (List ℕ)) → IsFirstFault (before ++ next ∷ more) (fault_after before kind)
-Brings before next (Err word.OutOfMemory) read = Unit {0}
+-- what one line more brings: its text continues, or has ended, or has its first fault there
+abbrev pub PlanLineBrings : List (List ℕ) → List ℕ → Result PlanLine WordFault → PlanProgress → Type 0
+PlanLineBrings before next (Ok line.Blank) read = IsPrefix (before ++ next ∷ []) read
+PlanLineBrings before next (Ok (line.Header version)) read = IsPrefix (before ++ next ∷ []) read
+PlanLineBrings before next (Ok (line.Part part)) read = IsPrefix (before ++ next ∷ []) read
+PlanLineBrings before next (Ok (line.Delay moments)) read = IsPrefix (before ++ next ∷ []) read
+PlanLineBrings before next (Ok (line.Between name from low high to)) read = IsPrefix (before ++ next ∷ []) read
+PlanLineBrings before next (Ok line.End) read = IsPlanText (before ++ next ∷ []) read.delay read.parts read.lines
+PlanLineBrings before next (Err (word.Kind kind)) read = (more : List (List ℕ)) → IsFirstPlanFault (before ++ next ∷ more) (fault_after before kind)
+PlanLineBrings before next (Err word.OutOfMemory) read = Unit {0}
 
 -- the fault of a text whose line has a fault
-abbrev pub fault_at_line : ℕ → WordFault → TextFault
-fault_at_line number (word.Kind kind) = text.Format (record { line = number; kind = kind })
-fault_at_line number word.OutOfMemory = text.OutOfMemory
+abbrev pub plan_fault_at_line : ℕ → WordFault → TextFault
+plan_fault_at_line number (word.Kind kind) = text.Format (record { line = number; kind = kind })
+plan_fault_at_line number word.OutOfMemory = text.OutOfMemory
 
 -- lines of the bytes were read up to the `end` line, or to the first fault
-abbrev pub ReadsLines : List ℕ → Progress → Result ℕ TextFault → Type 0
+abbrev pub ReadsLines : List ℕ → PlanProgress → Result ℕ TextFault → Type 0
 ReadsLines bytes read (Ok used) = ReadsPlan bytes (record { parts = read.parts; lines = read.lines; used = used; delay = pos read.delay })
-ReadsLines bytes read (Err fault) = IsFaultOf bytes fault
+ReadsLines bytes read (Err fault) = IsPlanTextFault bytes fault
 
 -- the answer is this one, unless memory ran out
-abbrev pub Reads : Result Parts TextFault → Parts → Type 0
-Reads (Ok read) said = read ≡ said
-Reads (Err (text.Format fault)) said = ⊥
-Reads (Err text.OutOfMemory) said = Unit {0}
+abbrev pub ReadsParts : Result Parts TextFault → Parts → Type 0
+ReadsParts (Ok read) said = read ≡ said
+ReadsParts (Err (text.Format fault)) said = ⊥
+ReadsParts (Err text.OutOfMemory) said = Unit {0}
 
 -- the answer is this fault, unless memory ran out
-abbrev pub Refuses : Result Parts TextFault → FormatFault → Type 0
-Refuses (Ok read) fault = ⊥
-Refuses (Err (text.Format told)) fault = told ≡ fault
-Refuses (Err text.OutOfMemory) fault = Unit {0}
+abbrev pub RefusesText : Result Parts TextFault → FormatFault → Type 0
+RefusesText (Ok read) fault = ⊥
+RefusesText (Err (text.Format stated)) fault = stated ≡ fault
+RefusesText (Err text.OutOfMemory) fault = Unit {0}
 
 -- how many parts are read of so many bytes: a line declares at most two
 pub record HasSizes (bytes : List ℕ) (read : Parts) : Type 0 where

@@ -1,10 +1,10 @@
 //! The network of the parts that a plan text declares.
 
 ghost use Rattle.std.specs.Prelude.{◌≡◌, ℕ, ◌<◌, ◌≤◌, ◌^◌, length, IfOk};
-ghost use Rattle.net_model.specs.Building.{place_of};
+ghost use Rattle.net_model.specs.BuiltNetwork.{place_of};
 ghost use Rattle.net_model.specs.Limits.{most_delay};
 ghost use Rattle.net_model.specs.Network.{IsPlan, HasPlanNumbers};
-ghost use Rattle.plan_format.specs.PlanNetwork.{BuildsParts, TellsLine};
+ghost use Rattle.plan_format.specs.PlanNetwork.{BuildsParts, StatesLine};
 
 use net_model::{BuildFault, Network, Part, Weight};
 use std::alloc::Global;
@@ -36,7 +36,8 @@ impl fmt::Display for DeclarationFault {
 
 impl Error for DeclarationFault {}
 
-/// The network of parts, each with the number of its line, with a delay, or the first part that is refused.
+/// The network of parts, each with the number of its line, with a delay, or the first part that is
+/// refused.
 pub(crate) fn build(
     alloc: Global,
     delay: u32,
@@ -58,8 +59,9 @@ pub(crate) fn build(
 
 /// The fault of a refused part, with the number of its line.
 fn refused(lines: &[u32], fault: BuildFault) -> DeclarationFault
-    requires { (place : ℕ) → place_of fault ≡ Some place → (0 < place) × (place ≤ length lines.now) }
-    ensures { TellsLine result lines.now fault }
+    requires { (place : ℕ) → place_of fault ≡ Some place
+        → (0 < place) × (place ≤ length lines.now) }
+    ensures { StatesLine result lines.now fault }
 {
     match fault.place() {
         Some(place) => DeclarationFault::Refused(lines[place as usize - 1], fault),

@@ -1,4 +1,5 @@
-//! Plan texts, versions 1 and 2: their lines, reading a text line by line or whole, and printing a network as one.
+//! Plan texts, versions 1 and 2: their lines, reading a text line by line or whole, and printing a
+//! network as one.
 #![tactic(auto)]
 
 mod declaration;

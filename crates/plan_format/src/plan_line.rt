@@ -7,10 +7,12 @@ ghost use Rattle.texts.specs.Words.{words};
 ghost use Rattle.plan_format.specs.declared.plan_line.PlanLine.{PlanLine};
 ghost use Rattle.net_model.specs.Limits.{most_number};
 ghost use Rattle.plan_format.specs.PlanFaults.{IsFaultOfLine};
-ghost use Rattle.plan_format.specs.PlanGrammar.{IsLine};
+ghost use Rattle.plan_format.specs.PlanGrammar.{IsPlanLine};
 ghost use Rattle.plan_format.specs.PlanParts.{version_numbered};
-ghost use Rattle.plan_format.specs.PlanForms.{form_of_second, form_of_delay, point_form, bound_form, link_form, end_form, between_form, delay_form};
-ghost use Rattle.plan_format.specs.PlanLines.{plan_line, line_by_word, header_line};
+ghost use Rattle.plan_format.specs.PlanForms.{form_of_second, form_of_delay, point_form};
+ghost use Rattle.plan_format.specs.PlanForms.{plan_bound_form, plan_link_form, plan_end_form};
+ghost use Rattle.plan_format.specs.PlanForms.{between_form, delay_form};
+ghost use Rattle.plan_format.specs.PlanLines.{plan_line, plan_line_by_word, plan_header_line};
 
 use crate::version::{PlanStage, PlanVersion};
 use net_model::{FormatKind, MOST_DELAY, MOST_NUMBER, Name, Part, Weight, WordFault, text};
@@ -26,19 +28,22 @@ pub enum PlanLine {
     Part(Part),
     /// The delay, in whole moments, from 0 to `MOST_DELAY`.
     Delay(Weight),
-    /// Two bounds that belong together, `low <= to - from <= high`: their name, from, low, high and to.
+    /// Two bounds that belong together, `low <= to - from <= high`: their name, from, low, high and
+    /// to.
     Between(Name, Name, Weight, Weight, Name),
     /// The last line, `end`.
     End,
 }
 
-/// Reads one line of a plan text of a version, 1 or 2, alone. The fault is the first one: of the first word, of the count of words, and
-/// then of the words from left to right. A line whose first word is `stnu` is the header `stnu 1` or `stnu 2`, or `UnknownWord`. It
-/// takes no memory, so `OutOfMemory` never comes.
+/// Reads one line of a plan text of a version, 1 or 2, alone. The fault is the first one: of the
+/// first word, of the count of words, and then of the words from left to right. A line whose first
+/// word is `stnu` is the header `stnu 1` or `stnu 2`, or `UnknownWord`. It takes no memory, so
+/// `OutOfMemory` never comes.
 pub fn read_plan_line(line: &[u8], version: u32) -> Result<PlanLine, WordFault>
     requires known { (version ≡ 1) ⊎ (version ≡ 2) }
-    ensures grammar { IfOk result (λ read. IsLine (version_numbered version) read line.now) }
-    ensures every { (read : PlanLine) → IsLine (version_numbered version) read line.now → result ≡ Ok read }
+    ensures grammar { IfOk result (λ read. IsPlanLine (version_numbered version) read line.now) }
+    ensures every { (read : PlanLine) → IsPlanLine (version_numbered version) read line.now
+        → result ≡ Ok read }
     ensures fault { IfErr result (IsFaultOfLine (version_numbered version) line.now) }
 {
     Ok(plan_line(line, PlanVersion::numbered(version), PlanStage::Opened)?)
@@ -65,10 +70,10 @@ fn line_of(
     first: &[u8],
     rest: &[u8],
 ) -> Result<PlanLine, FormatKind>
-    ensures { result ≡ line_by_word version stage first.now (words rest.now) }
+    ensures { result ≡ plan_line_by_word version stage first.now (words rest.now) }
 {
     if first == b"stnu".as_slice() {
-        return header_line(rest);
+        return plan_header_line(rest);
     }
     if first == b"point".as_slice() {
         return point_line(rest);
@@ -105,7 +110,7 @@ fn second_line(
     }
 }
 
-/// The line of the delay, where it may come.
+/// The line of the delay, if it may come.
 fn delay_in(stage: PlanStage, first: &[u8], rest: &[u8]) -> Result<PlanLine, FormatKind>
     ensures { result ≡ read_as (form_of_delay stage first.now) (words rest.now) }
 {
@@ -116,13 +121,13 @@ fn delay_in(stage: PlanStage, first: &[u8], rest: &[u8]) -> Result<PlanLine, For
             }
             Err(FormatKind::UnknownWord)
         }
-        PlanStage::Going => Err(FormatKind::UnknownWord),
+        PlanStage::PastDelay => Err(FormatKind::UnknownWord),
     }
 }
 
-/// What stands after `stnu`.
-fn header_line(rest: &[u8]) -> Result<PlanLine, FormatKind>
-    ensures { result ≡ header_line (words rest.now) }
+/// The words after `stnu`.
+fn plan_header_line(rest: &[u8]) -> Result<PlanLine, FormatKind>
+    ensures { result ≡ plan_header_line (words rest.now) }
 {
     let Some((version, rest)) = texts::next_word(rest) else {
         return Err(FormatKind::UnknownWord);
@@ -139,7 +144,7 @@ fn header_line(rest: &[u8]) -> Result<PlanLine, FormatKind>
     Err(FormatKind::UnknownWord)
 }
 
-/// What stands after `point`.
+/// The words after `point`.
 fn point_line(rest: &[u8]) -> Result<PlanLine, FormatKind>
     ensures { result ≡ read_by point_form (words rest.now) }
 {
@@ -147,9 +152,9 @@ fn point_line(rest: &[u8]) -> Result<PlanLine, FormatKind>
     Ok(PlanLine::Part(Part::Point(text::name(name)?)))
 }
 
-/// What stands after `bound`.
+/// The words after `bound`.
 fn bound_line(rest: &[u8]) -> Result<PlanLine, FormatKind>
-    ensures { result ≡ read_by bound_form (words rest.now) }
+    ensures { result ≡ read_by plan_bound_form (words rest.now) }
 {
     let (name, from, to, most) = text::four(rest)?;
     Ok(PlanLine::Part(Part::Bound(
@@ -160,9 +165,9 @@ fn bound_line(rest: &[u8]) -> Result<PlanLine, FormatKind>
     )))
 }
 
-/// What stands after `link`.
+/// The words after `link`.
 fn link_line(rest: &[u8]) -> Result<PlanLine, FormatKind>
-    ensures { result ≡ read_by link_form (words rest.now) }
+    ensures { result ≡ read_by plan_link_form (words rest.now) }
 {
     let (from, low, high, to) = text::four(rest)?;
     Ok(PlanLine::Part(Part::Link(
@@ -173,7 +178,7 @@ fn link_line(rest: &[u8]) -> Result<PlanLine, FormatKind>
     )))
 }
 
-/// What stands after `between`.
+/// The words after `between`.
 fn between_line(rest: &[u8]) -> Result<PlanLine, FormatKind>
     ensures { result ≡ read_by between_form (words rest.now) }
 {
@@ -187,7 +192,7 @@ fn between_line(rest: &[u8]) -> Result<PlanLine, FormatKind>
     ))
 }
 
-/// What stands after `delay`.
+/// The words after `delay`.
 fn delay_line(rest: &[u8]) -> Result<PlanLine, FormatKind>
     ensures { result ≡ read_by delay_form (words rest.now) }
 {
@@ -196,9 +201,9 @@ fn delay_line(rest: &[u8]) -> Result<PlanLine, FormatKind>
     Ok(PlanLine::Delay(moments as Weight))
 }
 
-/// What stands after `end`.
+/// The words after `end`.
 fn end_line(rest: &[u8]) -> Result<PlanLine, FormatKind>
-    ensures { result ≡ read_by end_form (words rest.now) }
+    ensures { result ≡ read_by plan_end_form (words rest.now) }
 {
     text::no_more(rest)?;
     Ok(PlanLine::End)

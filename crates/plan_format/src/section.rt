@@ -1,3 +1,5 @@
+//! The section of a plan text: what may come next in it.
+
 use crate::version::{PlanStage, PlanVersion};
 use net_model::FormatKind;
 
@@ -7,19 +9,19 @@ pub enum PlanSection {
     /// The header, `stnu 1` or `stnu 2`.
     Header,
     /// What a text of this version may have after its header, and then the `end` line.
-    Begun(PlanVersion, PlanStage),
+    Started(PlanVersion, PlanStage),
 }
 
 impl PlanSection {
     ghost use Rattle.std.specs.Prelude.{◌≡◌};
     ghost use Rattle.plan_format.specs.PlanParts.{version_numbered};
-    ghost use Rattle.plan_format.specs.PlanReading.{gone_on, missing, stage_in, version_in};
+    ghost use Rattle.plan_format.specs.PlanReading.{past_delay, missing, stage_in, version_in};
 
     /// After a header of a version of this number.
     pub(crate) fn opened(version: u32) -> PlanSection
-        ensures { result ≡ PlanSection.Begun (version_numbered version) PlanStage.Opened }
+        ensures { result ≡ PlanSection.Started (version_numbered version) PlanStage.Opened }
     {
-        PlanSection::Begun(PlanVersion::numbered(version), PlanStage::Opened)
+        PlanSection::Started(PlanVersion::numbered(version), PlanStage::Opened)
     }
 
     /// The version by which a line is read here: the first before the header.
@@ -28,7 +30,7 @@ impl PlanSection {
     {
         match self {
             PlanSection::Header => PlanVersion::One,
-            PlanSection::Begun(version, _) => version,
+            PlanSection::Started(version, _) => version,
         }
     }
 
@@ -38,17 +40,17 @@ impl PlanSection {
     {
         match self {
             PlanSection::Header => PlanStage::Opened,
-            PlanSection::Begun(_, stage) => stage,
+            PlanSection::Started(_, stage) => stage,
         }
     }
 
-    /// The section after a line that tells something.
-    pub(crate) fn gone_on(self) -> PlanSection
-        ensures { result ≡ gone_on self }
+    /// The section after a line that is not blank.
+    pub(crate) fn past_delay(self) -> PlanSection
+        ensures { result ≡ past_delay self }
     {
         match self {
             PlanSection::Header => PlanSection::Header,
-            PlanSection::Begun(version, _) => PlanSection::Begun(version, PlanStage::Going),
+            PlanSection::Started(version, _) => PlanSection::Started(version, PlanStage::PastDelay),
         }
     }
 
@@ -58,7 +60,7 @@ impl PlanSection {
     {
         match self {
             PlanSection::Header => FormatKind::NoHeader,
-            PlanSection::Begun(_, _) => FormatKind::NoEnd,
+            PlanSection::Started(_, _) => FormatKind::NoEnd,
         }
     }
 }

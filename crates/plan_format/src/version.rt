@@ -26,11 +26,11 @@ impl PlanVersion {
     }
 }
 
-/// How far a plan text is that has begun.
+/// How far a plan text is after its header.
 #[derive(Clone, Copy, Debug, PartialEq, Eq)]
 pub enum PlanStage {
-    /// Nothing but blank lines stands after its header, so that its delay may come.
+    /// Only blank lines have followed its header, so that its delay may come.
     Opened,
-    /// Its delay or a part was told.
-    Going,
+    /// Its delay or a part was read.
+    PastDelay,
 }

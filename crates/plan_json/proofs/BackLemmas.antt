@@ -13,8 +13,8 @@ use Rattle.net_model.specs.declared.part.Link.{Link}
 use Rattle.net_model.specs.declared.part.Part.TheVariants as part
 use Rattle.serde_json.specs.Data.{string}
 use Rattle.serde_json.specs.Find.{as_i64, of_integer}
-use Rattle.plan_json.specs.Document.{bound_form, bound_parts, document_plan, items_parts, link_form, link_parts, lists_parts, lists_plan, point_parts, top_of}
-use Rattle.plan_json.specs.Writing.{bound_data, document_of, link_data}
+use Rattle.plan_json.specs.Document.{bound_form_at, bound_parts, document_plan, items_parts, link_form_at, link_parts, lists_parts, lists_plan, point_parts, top_of}
+use Rattle.plan_json.specs.DocumentText.{bound_data, document_of, link_data}
 use Rattle.plan_json.specs.declared.place.Place.{Place}
 use Rattle.plan_json.specs.declared.place.PartList.TheVariants as list
 use Rattle.plan_json.proofs.ViewLemmas.{list_of_items}
@@ -33,16 +33,16 @@ whole_back (negsuc n) within = refl
 -- a bound is read back
 bound_back : (place : Place) (points : List (List ℕ)) (bound : Bound) → is_name bound.name ≡ true → is_name (point_name points bound.from) ≡ true → is_name (point_name points bound.to) ≡ true
     → within_limit bound.most ≡ true → bound_parts place (bound_data points bound) ≡ Ok (declared_bound points bound ∷ [])
-unfolding bound_parts bound_form
+unfolding bound_parts bound_form_at
 bound_back place points bound named from to within = rw (whole_back bound.most within, named, from, to, within) refl
 
 -- a link is read back
 link_back : (place : Place) (points : List (List ℕ)) (link : Link) → is_name (point_name points link.from) ≡ true → is_name (point_name points link.to) ≡ true
     → within_limit link.low ≡ true → within_limit link.high ≡ true → link_parts place (link_data points link) ≡ Ok (declared_link points link ∷ [])
-unfolding link_parts link_form
+unfolding link_parts link_form_at
 link_back place points link from to low high = rw (whole_back link.low low, whole_back link.high high, from, to, low, high) refl
 
--- the shortest duration is within the limit where the longest is
+-- the shortest duration is within the limit if the longest is
 pub low_within : (low high : ℤ) → pos 1 ≤ℤ low → low ≤ℤ high → within_limit high ≡ true → within_limit low ≡ true
 low_within low high positive interval within = grind (arith, nat_tests)
 

@@ -11,7 +11,7 @@ use Rattle.texts.specs.Words.{words, words_after, if_filled, is_blank}
 use Rattle.texts.proofs.LineLemmas.{lines_is}
 use Rattle.texts.proofs.WordLemmas.{words_is}
 
--- the pieces of a text between its line ends, of which `line` is the beginning of the first
+-- the pieces of a text between its line ends, of which `line` is the start of the first
 abbrev pub cut_after : List ℕ → List ℕ → List (List ℕ)
 cut_after line [] = line ∷ []
 cut_after line (byte ∷ bytes) = if byte == 10 then line ∷ cut_after [] bytes else cut_after (line ++ byte ∷ []) bytes
@@ -52,7 +52,7 @@ join_cut line (byte ∷ bytes) = by (byte == 10) refl (join_cut [] bytes) (join_
 pub cut_joined : (text : List ℕ) → text ≡ join_with_byte 10 (cut text)
 cut_joined text = sym (join_cut [] text)
 
--- and the lines of the text, where a line end and more stand after it
+-- and the lines of the text, if a line end and more follow
 lines_cut_after : (line text rest : List ℕ) → lines_after line (text ++ 10 ∷ rest) ≡ cut_after line text ++ lines rest
 lines_cut_after line [] rest = ap (λ (ls : List (List ℕ)). line ∷ ls) (lines_is rest)
 lines_cut_after line (byte ∷ bytes) rest = by (byte == 10) refl (lines_cut_after [] bytes rest) (lines_cut_after (line ++ byte ∷ []) bytes rest)
@@ -73,7 +73,7 @@ is_mark byte = nat_lt 32 byte && not (byte == 101 || byte == 110 || byte == 100)
 abbrev pub has_mark : List ℕ → Bool
 has_mark text = list_any is_mark text
 
--- each line has a mark, where the first one has it already or not
+-- each line has a mark, whether the first one has it already or not
 abbrev pub marked : Bool → List ℕ → Bool
 marked seen [] = seen
 marked seen (byte ∷ bytes) = if byte == 10 then seen && marked false bytes else marked (seen || is_mark byte) bytes
@@ -90,7 +90,8 @@ all_marked : (line bytes : List ℕ) → marked (has_mark line) bytes ≡ true �
 all_marked line [] is = All-cons (λ piece. has_mark piece ≡ true) line [] is (All-nil (λ piece. has_mark piece ≡ true))
 all_marked line (byte ∷ bytes) is = by (byte == 10) refl (λ others. all_marked [] bytes others) (λ on. all_marked (line ++ byte ∷ []) bytes on)
   where
-    by : (ends : Bool) → (byte == 10) ≡ ends → (marked false bytes ≡ true → All (λ piece. has_mark piece ≡ true) (cut_after [] bytes)) → (marked (has_mark (line ++ byte ∷ [])) bytes ≡ true → All (λ piece. has_mark piece ≡ true) (cut_after (line ++ byte ∷ []) bytes))
+    by : (ends : Bool) → (byte == 10) ≡ ends → (marked false bytes ≡ true → All (λ piece. has_mark piece ≡ true) (cut_after [] bytes))
+        → (marked (has_mark (line ++ byte ∷ [])) bytes ≡ true → All (λ piece. has_mark piece ≡ true) (cut_after (line ++ byte ∷ []) bytes))
         → All (λ piece. has_mark piece ≡ true) (cut_after line (byte ∷ bytes))
     by true same others on =
         let both : (has_mark line && marked false bytes) ≡ true = ap (λ (e : Bool). chosen e (has_mark line && marked false bytes) (marked (has_mark line || is_mark byte) bytes)) (sym same) ∙ is in
@@ -108,11 +109,11 @@ filled_is : (word : List ℕ) → one_text (if_filled word) ≡ word
 filled_is [] = refl
 filled_is (byte ∷ bytes) = append-nil (byte ∷ bytes)
 
-mark_both : (front back : List ℕ) → has_mark (front ++ back) ≡ (has_mark front || has_mark back)
+mark_both : (prefix back : List ℕ) → has_mark (prefix ++ back) ≡ (has_mark prefix || has_mark back)
 mark_both [] back = refl
-mark_both (byte ∷ front) back = by (is_mark byte) refl (mark_both front back)
+mark_both (byte ∷ prefix) back = by (is_mark byte) refl (mark_both prefix back)
   where
-    by : (m : Bool) → is_mark byte ≡ m → has_mark (front ++ back) ≡ (has_mark front || has_mark back) → has_mark (byte ∷ (front ++ back)) ≡ (has_mark (byte ∷ front) || has_mark back)
+    by : (m : Bool) → is_mark byte ≡ m → has_mark (prefix ++ back) ≡ (has_mark prefix || has_mark back) → has_mark (byte ∷ (prefix ++ back)) ≡ (has_mark (byte ∷ prefix) || has_mark back)
     by true is on = rw is refl
     by false is on = rw is on
 

@@ -1,5 +1,6 @@
 -- Each line of a document of a network, in the pretty layout, has a mark, so none is the line `end`.
-use Rattle.std.proofs.Common.{◌≡◌, ◌≢◌, ℕ, suc, zero, ◌*◌, ◌<◌, ◌≤◌, ◌^◌, ◌==◌, ◌&&◌, ◌||◌, Bool, true, false, not, nat_lt, List, [], ◌∷◌, ◌++◌, map, length, replicate, ℤ, pos, negsuc, refl, sym, ap, ◌∙◌, subst, true≢false, arith, append_assoc, codes, if◌then◌else◌, IsTrue}
+use Rattle.std.proofs.Common.{◌≡◌, ◌≢◌, ℕ, suc, zero, ◌*◌, ◌<◌, ◌≤◌, ◌^◌, ◌==◌, ◌&&◌, ◌||◌, Bool, true, false, not, nat_lt, List, [], ◌∷◌, ◌++◌, map, length, replicate, ℤ, pos, negsuc, refl, sym, ap, ◌∙◌, subst, true≢false, arith}
+use Rattle.std.proofs.Common.{append_assoc, codes, if◌then◌else◌, IsTrue}
 use Rattle.std.specs.Fmt.{decimal}
 use Rattle.std.specs.List.{All, AllByRecursion, list_all, slice_index_or}
 use Rattle.std.specs.Str.Parse.{AllDigits}
@@ -24,7 +25,7 @@ use Rattle.serde_json.specs.Data.{string}
 use Rattle.serde_json.specs.Find.{of_integer}
 use Rattle.serde_json.specs.View.{items_of}
 use Rattle.serde_json.specs.Written.{outline, items_outline, members_outline, number_text}
-use Rattle.plan_json.specs.Writing.{bound_data, document_of, document_text, link_data, members_of_document}
+use Rattle.plan_json.specs.DocumentText.{bound_data, document_of, document_text, link_data, members_of_document}
 use Rattle.plan_json.proofs.BackLemmas.{low_within}
 use Rattle.plan_json.proofs.CutLemmas.{has_mark, is_mark, marked}
 
@@ -216,7 +217,8 @@ bound_marked net plan bound sound within =
       ),
     )
 
-bounds_marked : (net : Plan) → IsPlan net → (bounds : List Bound) → All (IsBound net) bounds → All (λ (b : Bound). within_limit b.most ≡ true) bounds → AllByRecursion IsMarked (items_tokens (items_outline (items_of (map (bound_data net.points) bounds))))
+bounds_marked : (net : Plan) → IsPlan net → (bounds : List Bound) → All (IsBound net) bounds → All (λ (b : Bound). within_limit b.most ≡ true) bounds
+    → AllByRecursion IsMarked (items_tokens (items_outline (items_of (map (bound_data net.points) bounds))))
 bounds_marked net plan [] sound limited = (bracket_marked token.end_array refl refl, tt)
 bounds_marked net plan (bound ∷ bounds) sound limited =
     both (json_tokens (outline (bound_data net.points bound))) (items_tokens (items_outline (items_of (map (bound_data net.points) bounds))))
@@ -257,7 +259,8 @@ link_marked net plan link sound within =
       ),
     )
 
-links_marked : (net : Plan) → IsPlan net → (links : List Link) → All (IsLink net) links → All (λ (l : Link). within_limit l.high ≡ true) links → AllByRecursion IsMarked (items_tokens (items_outline (items_of (map (link_data net.points) links))))
+links_marked : (net : Plan) → IsPlan net → (links : List Link) → All (IsLink net) links → All (λ (l : Link). within_limit l.high ≡ true) links
+    → AllByRecursion IsMarked (items_tokens (items_outline (items_of (map (link_data net.points) links))))
 links_marked net plan [] sound limited = (bracket_marked token.end_array refl refl, tt)
 links_marked net plan (link ∷ links) sound limited =
     both (json_tokens (outline (link_data net.points link))) (items_tokens (items_outline (items_of (map (link_data net.points) links))))

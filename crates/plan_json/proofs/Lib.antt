@@ -5,7 +5,7 @@ pub mod PartsLemmas
 pub mod ReadLemmas
 pub mod StandLemmas
 pub mod ViewLemmas
-pub mod WritingLemmas
+pub mod WrittenDocumentLemmas
 pub mod GrammarLemmas
 pub mod OneReadingLemmas
 pub mod ItemsLemmas

@@ -6,7 +6,8 @@ use Rattle.net_model.specs.Limits.{most_delay}
 use Rattle.net_model.specs.declared.part.Part.{Part}
 use Rattle.net_model.specs.declared.part.Part.TheVariants as part
 use Rattle.plan_json.specs.Document.{Fault as Wrong, shape, bad_name, number_limit, BoundForm, BetweenForm, LinkForm, Lists, PlanParts, ◌>>=◌, delay_in, document_plan, item_parts, items_parts, lists_parts, lists_plan, top_of, unless}
-use Rattle.plan_json.specs.DocumentGrammar.{HasBoundForm, HasBetweenForm, HasLinkForm, HasForm, point, bound, pair, link, AreNames, AreWithin, DeclaresItem, HasNoForm, HasBadName, HasGreatNumber, IsItemFault, DeclareItems, IsListFault, HasTop, DeclaresPlan, IsFirstFault, of_top, of_delay, of_points, of_bounds, of_between, of_links, ReadsAsDeclared}
+use Rattle.plan_json.specs.DocumentGrammar.{HasBoundForm, HasBetweenForm, HasLinkForm, HasForm, point, bound, pair, link, AreNames, AreNumbersWithin, DeclaresItem, HasNoForm, HasBadName, HasGreatNumber, IsItemFault, DeclareItems}
+use Rattle.plan_json.specs.DocumentGrammar.{IsListFault, HasTop, DeclaresPlan, IsFirstDocumentFault, of_top, of_delay, of_points, of_bounds, of_between, of_links, ReadsAsDeclared}
 use Rattle.plan_json.specs.declared.place.PartList.{PartList}
 use Rattle.plan_json.specs.declared.place.PartList.TheVariants as list
 use Rattle.plan_json.specs.declared.fault.Member.TheVariants.{Top}
@@ -86,7 +87,7 @@ bad_name_declares of value declared is bad =
 great_declares : (of : PartList) (value : Data) (declared : List Part) → DeclaresItem of value declared → HasGreatNumber of value → ⊥
 great_declares of value declared is great =
     let same = same_form of value is.names great.names is.numbers great.numbers declared great.declared is.form great.form in
-    great.some (subst AreWithin same.numbers_are is.within)
+    great.some (subst AreNumbersWithin same.numbers_are is.within)
 
 bad_name_great : (of : PartList) (value : Data) → HasBadName of value → HasGreatNumber of value → ⊥
 bad_name_great of value bad great =
@@ -174,15 +175,17 @@ no_top_is document none = by (top_of document) (top_reads document)
 abbrev joined : (points bounds between links : Result (List Part) Wrong) → Result (List Part) Wrong
 joined points bounds between links = points >>= λ points. bounds >>= λ bounds. between >>= λ between. links >>= λ links. Ok (points ++ (bounds ++ (between ++ links)))
 
-abbrev planned : ℕ → Result (Unit {0}) Wrong → Result (List Part) Wrong → Result PlanParts Wrong
-planned delay short parts = short >>= λ short. parts >>= λ parts. Ok (record { delay = delay; parts = parts })
+abbrev plan_in_lists : ℕ → Result (Unit {0}) Wrong → Result (List Part) Wrong → Result PlanParts Wrong
+plan_in_lists delay short parts = short >>= λ short. parts >>= λ parts. Ok (record { delay = delay; parts = parts })
 
-joined_is : (lists : Lists) → lists_plan lists ≡ planned lists.delay (delay_in lists.delay) (joined (items_parts list.Points 0 lists.points) (items_parts list.Bounds 0 lists.bounds) (items_parts list.Between 0 lists.between) (items_parts list.Links 0 lists.links))
+joined_is : (lists : Lists) → lists_plan lists ≡ plan_in_lists lists.delay (delay_in lists.delay) (joined (items_parts list.Points 0 lists.points) (items_parts list.Bounds 0 lists.bounds) (items_parts list.Between 0 lists.between)
+    (items_parts list.Links 0 lists.links))
 unfolding lists_parts lists_plan
 joined_is lists = refl
 
 after_top : (document : Data) (lists : Lists) → HasTop document lists
-    → document_plan document ≡ planned lists.delay (delay_in lists.delay) (joined (items_parts list.Points 0 lists.points) (items_parts list.Bounds 0 lists.bounds) (items_parts list.Between 0 lists.between) (items_parts list.Links 0 lists.links))
+    → document_plan document ≡ plan_in_lists lists.delay (delay_in lists.delay) (joined (items_parts list.Points 0 lists.points) (items_parts list.Bounds 0 lists.bounds) (items_parts list.Between 0 lists.between)
+    (items_parts list.Links 0 lists.links))
 after_top document lists top = ap (λ (read : Result Lists Wrong). read >>= lists_plan) (top_is document lists top) ∙ joined_is lists
 
 short_is : (delay : ℕ) → delay ≤ most_delay → delay_in delay ≡ Ok tt
@@ -192,15 +195,17 @@ long_is : (delay : ℕ) → most_delay < delay → delay_in delay ≡ Err (numbe
 long_is delay long = ap (λ (b : Bool). unless b (number_limit Top 0)) (lt-leb delay most_delay long)
 
 after_delay : (document : Data) (lists : Lists) (read : Result (List Part) Wrong) → HasTop document lists → lists.delay ≤ most_delay
-    → joined (items_parts list.Points 0 lists.points) (items_parts list.Bounds 0 lists.bounds) (items_parts list.Between 0 lists.between) (items_parts list.Links 0 lists.links) ≡ read → document_plan document ≡ planned lists.delay (Ok tt) read
+    → joined (items_parts list.Points 0 lists.points) (items_parts list.Bounds 0 lists.bounds) (items_parts list.Between 0 lists.between) (items_parts list.Links 0 lists.links) ≡ read
+    → document_plan document ≡ plan_in_lists lists.delay (Ok tt) read
 after_delay document lists read top short is =
-    after_top document lists top ∙ (λ i. planned lists.delay (short_is lists.delay short i) (is i))
+    after_top document lists top ∙ (λ i. plan_in_lists lists.delay (short_is lists.delay short i) (is i))
 
-first_fault_is : (document : Data) (fault : Wrong) → IsFirstFault document fault → document_plan document ≡ Err fault
+first_fault_is : (document : Data) (fault : Wrong) → IsFirstDocumentFault document fault → document_plan document ≡ Err fault
 first_fault_is document fault (of_top none is) = ap (λ (read : Result Lists Wrong). read >>= lists_plan) (no_top_is document none) ∙ ap Err (sym is)
 first_fault_is document fault (of_delay lists top long is) =
     after_top document lists top
-    ∙ (ap (λ (short : Result (Unit {0}) Wrong). planned lists.delay short (joined (items_parts list.Points 0 lists.points) (items_parts list.Bounds 0 lists.bounds) (items_parts list.Between 0 lists.between) (items_parts list.Links 0 lists.links))) (long_is lists.delay long)
+    ∙ (ap (λ (short : Result (Unit {0}) Wrong). plan_in_lists lists.delay short (joined (items_parts list.Points 0 lists.points) (items_parts list.Bounds 0 lists.bounds) (items_parts list.Between 0 lists.between)
+    (items_parts list.Links 0 lists.links))) (long_is lists.delay long)
     ∙ ap Err (sym is))
 first_fault_is document fault (of_points lists top short points) =
     after_delay document lists (Err fault) top short
@@ -213,12 +218,14 @@ first_fault_is document fault (of_between lists points bounds top short declared
     (λ i. joined (declared_is list.Points 0 lists.points points declared i) (declared_is list.Bounds 0 lists.bounds bounds others i) (list_fault_is list.Between lists.between fault between i) (items_parts list.Links 0 lists.links))
 first_fault_is document fault (of_links lists points bounds between top short declared others more links) =
     after_delay document lists (Err fault) top short
-    (λ i. joined (declared_is list.Points 0 lists.points points declared i) (declared_is list.Bounds 0 lists.bounds bounds others i) (declared_is list.Between 0 lists.between between more i) (list_fault_is list.Links lists.links fault links i))
+    (λ i. joined (declared_is list.Points 0 lists.points points declared i) (declared_is list.Bounds 0 lists.bounds bounds others i) (declared_is list.Between 0 lists.between between more i)
+    (list_fault_is list.Links lists.links fault links i))
 
 declares_is : (document : Data) (plan : PlanParts) → DeclaresPlan document plan → document_plan document ≡ Ok plan
 declares_is document plan is =
     after_delay document is.lists (Ok (is.points ++ (is.bounds ++ (is.between ++ is.links)))) is.top is.short
-    (λ i. joined (declared_is list.Points 0 is.lists.points is.points is.of_points i) (declared_is list.Bounds 0 is.lists.bounds is.bounds is.of_bounds i) (declared_is list.Between 0 is.lists.between is.between is.of_between i) (declared_is list.Links 0 is.lists.links is.links is.of_links i))
+    (λ i. joined (declared_is list.Points 0 is.lists.points is.points is.of_points i) (declared_is list.Bounds 0 is.lists.bounds is.bounds is.of_bounds i) (declared_is list.Between 0 is.lists.between is.between is.of_between i)
+    (declared_is list.Links 0 is.lists.links is.links is.of_links i))
     ∙ (λ i. Ok (record { delay = (sym is.delay) i; parts = (sym is.all) i }))
 
 reading_is : (document : Data) (reading : Result PlanParts Wrong) → ReadsAsDeclared document reading → document_plan document ≡ reading

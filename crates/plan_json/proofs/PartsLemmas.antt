@@ -11,9 +11,10 @@ use Rattle.net_model.proofs.BetweenLemmas.{declarable_pair}
 use Rattle.plan_json.specs.declared.fault.Member.TheVariants.{Top}
 use Rattle.net_model.specs.declared.part.Part.{Part}
 use Rattle.net_model.specs.declared.part.Part.TheVariants as part
-use Rattle.plan_json.specs.Document.{Fault as Wrong, Lists, PlanParts, ◌>>=◌, bad_name, between_form, bound_form, bound_parts, delay_in, document_plan, item_parts, items_parts, link_form, link_parts, lists_parts, lists_plan, member_of, name_in, number_in, number_limit, or_fault, place_after, point_parts, shape_at, short_name_in, top_of, two_parts, unless}
+use Rattle.plan_json.specs.Document.{Fault as Wrong, Lists, PlanParts, ◌>>=◌, bad_name, between_form_at, bound_form_at, bound_parts, delay_in, document_plan, item_parts, items_parts, link_form_at, link_parts, lists_parts, lists_plan}
+use Rattle.plan_json.specs.Document.{member_of, name_in, number_in, number_limit, or_fault, place_after, point_parts, shape_at, short_name_in, top_of, two_parts, unless}
 use Rattle.net_model.specs.NetworkParts.{IsDeclarable}
-use Rattle.plan_json.specs.Reading.{declared, json_value}
+use Rattle.plan_json.specs.DocumentReading.{declared, json_value}
 use Rattle.plan_json.specs.declared.place.PartList.{PartList}
 use Rattle.plan_json.specs.declared.place.PartList.TheVariants as list
 use Rattle.plan_json.specs.declared.place.Place.{Place}
@@ -60,19 +61,28 @@ declarable_point place value declared is =
 declarable_bound : (place : Place) (value : Data) (declared : List Part) → bound_parts place value ≡ Ok declared → All IsDeclarable declared
 unfolding bound_parts
 declarable_bound place value declared is =
-    let form = bind_ok (bound_form place value) (λ form. name_in place form.name >>= λ name. name_in place form.from >>= λ from. name_in place form.to >>= λ to. number_in place form.most >>= λ within. Ok (part.Bound name from to form.most ∷ [])) declared is in
+    let form = bind_ok (bound_form_at place value) (λ form. name_in place form.name >>= λ name. name_in place form.from >>= λ from. name_in place form.to >>= λ to. number_in place form.most >>= λ within. Ok
+    (part.Bound name from to form.most ∷ [])) declared is in
     let name = bind_ok (name_in place form.0.name) (λ name. name_in place form.0.from >>= λ from. name_in place form.0.to >>= λ to. number_in place form.0.most >>= λ within. Ok (part.Bound name from to form.0.most ∷ [])) declared form.2 in
     let from = bind_ok (name_in place form.0.from) (λ from. name_in place form.0.to >>= λ to. number_in place form.0.most >>= λ within. Ok (part.Bound name.0 from to form.0.most ∷ [])) declared name.2 in
     let to = bind_ok (name_in place form.0.to) (λ to. number_in place form.0.most >>= λ within. Ok (part.Bound name.0 from.0 to form.0.most ∷ [])) declared from.2 in
     let within = bind_ok (number_in place form.0.most) (λ within. Ok (part.Bound name.0 from.0 to.0 form.0.most ∷ [])) declared to.2 in
     let same : part.Bound name.0 from.0 to.0 form.0.most ∷ [] ≡ declared = (let last = within.2 in cc) in
-    subst (All IsDeclarable) same (All-one (part.Bound name.0 from.0 to.0 form.0.most) (named place form.0.name name.0 name.1, named place form.0.from from.0 from.1, named place form.0.to to.0 to.1, small place form.0.most within.0 within.1))
+    subst (All IsDeclarable) same (All-one (part.Bound name.0 from.0 to.0 form.0.most) (
+      named place form.0.name name.0 name.1,
+      named place form.0.from from.0 from.1,
+      named place form.0.to to.0 to.1,
+      small place form.0.most within.0
+          within.1,
+    ))
 
 declarable_link : (place : Place) (value : Data) (declared : List Part) → link_parts place value ≡ Ok declared → All IsDeclarable declared
 unfolding link_parts
 declarable_link place value declared is =
-    let form = bind_ok (link_form place value) (λ form. name_in place form.from >>= λ from. name_in place form.to >>= λ to. number_in place form.low >>= λ low. number_in place form.high >>= λ high. Ok (part.Link from form.low form.high to ∷ [])) declared is in
-    let from = bind_ok (name_in place form.0.from) (λ from. name_in place form.0.to >>= λ to. number_in place form.0.low >>= λ low. number_in place form.0.high >>= λ high. Ok (part.Link from form.0.low form.0.high to ∷ [])) declared form.2 in
+    let form = bind_ok (link_form_at place value) (λ form. name_in place form.from >>= λ from. name_in place form.to >>= λ to. number_in place form.low >>= λ low. number_in place form.high >>= λ high. Ok
+    (part.Link from form.low form.high to ∷ [])) declared is in
+    let from = bind_ok (name_in place form.0.from) (λ from. name_in place form.0.to >>= λ to. number_in place form.0.low >>= λ low. number_in place form.0.high >>= λ high. Ok (part.Link from form.0.low form.0.high to ∷ [])) declared
+    form.2 in
     let to = bind_ok (name_in place form.0.to) (λ to. number_in place form.0.low >>= λ low. number_in place form.0.high >>= λ high. Ok (part.Link from.0 form.0.low form.0.high to ∷ [])) declared from.2 in
     let low = bind_ok (number_in place form.0.low) (λ low. number_in place form.0.high >>= λ high. Ok (part.Link from.0 form.0.low form.0.high to.0 ∷ [])) declared to.2 in
     let high = bind_ok (number_in place form.0.high) (λ high. Ok (part.Link from.0 form.0.low form.0.high to.0 ∷ [])) declared low.2 in
@@ -82,14 +92,18 @@ declarable_link place value declared is =
 declarable_two : (place : Place) (value : Data) (declared : List Part) → two_parts place value ≡ Ok declared → All IsDeclarable declared
 unfolding two_parts
 declarable_two place value declared is =
-    let form = bind_ok (between_form place value) (λ form. short_name_in place form.name >>= λ name. name_in place form.from >>= λ from. name_in place form.to >>= λ to. number_in place form.low >>= λ low. number_in place form.high >>= λ high. Ok (between_parts name from form.low form.high to)) declared is in
-    let name = bind_ok (short_name_in place form.0.name) (λ name. name_in place form.0.from >>= λ from. name_in place form.0.to >>= λ to. number_in place form.0.low >>= λ low. number_in place form.0.high >>= λ high. Ok (between_parts name from form.0.low form.0.high to)) declared form.2 in
-    let from = bind_ok (name_in place form.0.from) (λ from. name_in place form.0.to >>= λ to. number_in place form.0.low >>= λ low. number_in place form.0.high >>= λ high. Ok (between_parts name.0 from form.0.low form.0.high to)) declared name.2 in
+    let form = bind_ok (between_form_at place value) (λ form. short_name_in place form.name >>= λ name. name_in place form.from >>= λ from. name_in place form.to >>= λ to. number_in place form.low >>= λ low. number_in place form.high >>= λ
+    high. Ok (between_parts name from form.low form.high to)) declared is in
+    let name = bind_ok (short_name_in place form.0.name) (λ name. name_in place form.0.from >>= λ from. name_in place form.0.to >>= λ to. number_in place form.0.low >>= λ low. number_in place form.0.high >>= λ high. Ok
+    (between_parts name from form.0.low form.0.high to)) declared form.2 in
+    let from = bind_ok (name_in place form.0.from) (λ from. name_in place form.0.to >>= λ to. number_in place form.0.low >>= λ low. number_in place form.0.high >>= λ high. Ok (between_parts name.0 from form.0.low form.0.high to)) declared
+    name.2 in
     let to = bind_ok (name_in place form.0.to) (λ to. number_in place form.0.low >>= λ low. number_in place form.0.high >>= λ high. Ok (between_parts name.0 from.0 form.0.low form.0.high to)) declared from.2 in
     let low = bind_ok (number_in place form.0.low) (λ low. number_in place form.0.high >>= λ high. Ok (between_parts name.0 from.0 form.0.low form.0.high to.0)) declared to.2 in
     let high = bind_ok (number_in place form.0.high) (λ high. Ok (between_parts name.0 from.0 form.0.low form.0.high to.0)) declared low.2 in
     let same : between_parts name.0 from.0 form.0.low form.0.high to.0 ≡ declared = (let last = high.2 in cc) in
-    subst (All IsDeclarable) same (declarable_pair name.0 from.0 form.0.low form.0.high to.0 (short place form.0.name name.0 name.1) (named place form.0.from from.0 from.1) (small place form.0.low low.0 low.1) (small place form.0.high high.0 high.1) (named place form.0.to to.0 to.1))
+    subst (All IsDeclarable) same (declarable_pair name.0 from.0 form.0.low form.0.high to.0 (short place form.0.name name.0 name.1) (named place form.0.from from.0 from.1) (small place form.0.low low.0 low.1)
+    (small place form.0.high high.0 high.1) (named place form.0.to to.0 to.1))
 
 declarable_item : (of : PartList) (count : ℕ) (value : Data) (declared : List Part) → item_parts (place_after of count) value ≡ Ok declared → All IsDeclarable declared
 declarable_item list.Points count value declared is = declarable_point (place_after list.Points count) value declared is
@@ -108,8 +122,10 @@ declarable_items of count (value ∷ values) parts is =
 declarable_lists : (lists : Lists) (parts : List Part) → lists_parts lists ≡ Ok parts → All IsDeclarable parts
 unfolding lists_parts
 declarable_lists lists parts is =
-    let points = bind_ok (items_parts list.Points 0 lists.points) (λ points. items_parts list.Bounds 0 lists.bounds >>= λ bounds. items_parts list.Between 0 lists.between >>= λ between. items_parts list.Links 0 lists.links >>= λ links. Ok (points ++ (bounds ++ (between ++ links)))) parts is in
-    let bounds = bind_ok (items_parts list.Bounds 0 lists.bounds) (λ bounds. items_parts list.Between 0 lists.between >>= λ between. items_parts list.Links 0 lists.links >>= λ links. Ok (points.0 ++ (bounds ++ (between ++ links)))) parts points.2 in
+    let points = bind_ok (items_parts list.Points 0 lists.points) (λ points. items_parts list.Bounds 0 lists.bounds >>= λ bounds. items_parts list.Between 0 lists.between >>= λ between. items_parts list.Links 0 lists.links >>= λ links. Ok
+    (points ++ (bounds ++ (between ++ links)))) parts is in
+    let bounds = bind_ok (items_parts list.Bounds 0 lists.bounds) (λ bounds. items_parts list.Between 0 lists.between >>= λ between. items_parts list.Links 0 lists.links >>= λ links. Ok (points.0 ++ (bounds ++ (between ++ links)))) parts
+    points.2 in
     let between = bind_ok (items_parts list.Between 0 lists.between) (λ between. items_parts list.Links 0 lists.links >>= λ links. Ok (points.0 ++ (bounds.0 ++ (between ++ links)))) parts bounds.2 in
     let links = bind_ok (items_parts list.Links 0 lists.links) (λ links. Ok (points.0 ++ (bounds.0 ++ (between.0 ++ links)))) parts between.2 in
     let same : points.0 ++ (bounds.0 ++ (between.0 ++ links.0)) ≡ parts = (let last = links.2 in cc) in

@@ -4,7 +4,7 @@ use Rattle.std.specs.Str.{IsUtf8, is_utf8}
 use Rattle.std.proofs.lemmas.Str.{IsUtf8-from_is_utf8, is_utf8-from_IsUtf8}
 use Rattle.serde_json.specs.Data.{Data}
 use Rattle.serde_json.specs.Read.{read}
-use Rattle.plan_json.specs.Reading.{json_value}
+use Rattle.plan_json.specs.DocumentReading.{json_value}
 
 pub value_read : (bytes : List ℕ) (document : Data) → IsUtf8 bytes → read bytes ≡ Some document → json_value bytes ≡ Some document
 value_read bytes document utf8 is = rw (is_utf8-from_IsUtf8 bytes utf8) is

@@ -1,6 +1,6 @@
--- The text of the document of a network stands before a line `end`.
+-- The text of the document of a network can come before a line `end`.
 use Rattle.net_model.specs.Network.{Plan, IsPlan, HasPlanNumbers}
-use Rattle.plan_json.specs.Writing.{StandsBeforeEnd, document_of, document_text}
+use Rattle.plan_json.specs.DocumentText.{StandsBeforeEnd, document_of, document_text}
 use Rattle.plan_json.proofs.CutLemmas.{cut, cut_joined, lines_cut, marked_inside}
 use Rattle.plan_json.proofs.LayoutLemmas.{document_marked}
 

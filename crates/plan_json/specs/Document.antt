@@ -1,5 +1,6 @@
 -- The delay and the parts that a JSON document declares, or its first fault, by the data of `serde_json`.
-use Rattle.std.specs.Prelude.{ℕ, ◌+◌, ◌==◌, ◌||◌, Bool, false, ℤ, pos, negsuc, nat_le, List, [], ◌∷◌, ◌++◌, Option, Some, None, is_some, option_and_then, option_map, Result, Ok, Err, codes, if◌then◌else◌}
+use Rattle.std.specs.Prelude.{ℕ, ◌+◌, ◌==◌, ◌||◌, Bool, false, ℤ, pos, negsuc, nat_le, List, [], ◌∷◌, ◌++◌, Option, Some, None, is_some, option_and_then}
+use Rattle.std.specs.Prelude.{option_map, Result, Ok, Err, codes, if◌then◌else◌}
 use Rattle.net_model.specs.Between.{between_parts}
 use Rattle.net_model.specs.Names.{is_name, is_short_name}
 use Rattle.net_model.specs.Limits.{within_limit, most_delay}
@@ -62,8 +63,8 @@ whole_of value = option_and_then as_i64 (as_number value)
 abbrev pub whole_at : List ℕ → Data → Option ℤ
 whole_at key value = option_and_then whole_of (get key value)
 
-abbrev pub list_at : List ℕ → Data → Option (List Data)
-list_at key value = option_map list_of (option_and_then as_array (get key value))
+abbrev pub array_at : List ℕ → Data → Option (List Data)
+array_at key value = option_map list_of (option_and_then as_array (get key value))
 
 -- ---- the items of the lists
 
@@ -84,7 +85,7 @@ shape_at place = shape (member_of place.list) place.number
 abbrev pub name_in : Place → List ℕ → Result (List ℕ) Fault
 name_in place text = if is_name text then Ok text else Err (bad_name (member_of place.list) place.number)
 
--- the name that a text is, where it is short
+-- the name that a text is, if it is short
 abbrev pub short_name_in : Place → List ℕ → Result (List ℕ) Fault
 short_name_in place text = if is_short_name text then Ok text else Err (bad_name (member_of place.list) place.number)
 
@@ -106,8 +107,9 @@ pub record BoundForm : Type 0 where
   pub to : List ℕ
   pub most : ℤ
 
-unfoldable pub bound_form : Place → Data → Result BoundForm Fault
-bound_form place value = do
+-- what an item has that is a bound, or its fault if it has another form
+unfoldable pub bound_form_at : Place → Data → Result BoundForm Fault
+bound_form_at place value = do
   exact ← unless (has_members 4 value) (shape_at place)
   name ← or_fault (shape_at place) (text_at (codes "name") value)
   from ← or_fault (shape_at place) (text_at (codes "from") value)
@@ -115,9 +117,10 @@ bound_form place value = do
   most ← or_fault (shape_at place) (whole_at (codes "most") value)
   Ok (record { name = name; from = from; to = to; most = most })
 
+-- the part that a bound declares, or its first fault
 unfoldable pub bound_parts : Place → Data → Result (List Part) Fault
 bound_parts place value = do
-  form ← bound_form place value
+  form ← bound_form_at place value
   name ← name_in place form.name
   from ← name_in place form.from
   to ← name_in place form.to
@@ -131,8 +134,9 @@ pub record LinkForm : Type 0 where
   pub high : ℤ
   pub to : List ℕ
 
-unfoldable pub link_form : Place → Data → Result LinkForm Fault
-link_form place value = do
+-- what an item has that is a link, or its fault if it has another form
+unfoldable pub link_form_at : Place → Data → Result LinkForm Fault
+link_form_at place value = do
   exact ← unless (has_members 4 value) (shape_at place)
   from ← or_fault (shape_at place) (text_at (codes "from") value)
   low ← or_fault (shape_at place) (whole_at (codes "low") value)
@@ -140,9 +144,10 @@ link_form place value = do
   to ← or_fault (shape_at place) (text_at (codes "to") value)
   Ok (record { from = from; low = low; high = high; to = to })
 
+-- the part that a link declares, or its first fault
 unfoldable pub link_parts : Place → Data → Result (List Part) Fault
 link_parts place value = do
-  form ← link_form place value
+  form ← link_form_at place value
   from ← name_in place form.from
   to ← name_in place form.to
   low ← number_in place form.low
@@ -157,8 +162,9 @@ pub record BetweenForm : Type 0 where
   pub high : ℤ
   pub to : List ℕ
 
-unfoldable pub between_form : Place → Data → Result BetweenForm Fault
-between_form place value = do
+-- what an item has that is two bounds, or its fault if it has another form
+unfoldable pub between_form_at : Place → Data → Result BetweenForm Fault
+between_form_at place value = do
   exact ← unless (has_members 5 value) (shape_at place)
   name ← or_fault (shape_at place) (text_at (codes "name") value)
   from ← or_fault (shape_at place) (text_at (codes "from") value)
@@ -167,9 +173,10 @@ between_form place value = do
   to ← or_fault (shape_at place) (text_at (codes "to") value)
   Ok (record { name = name; from = from; low = low; high = high; to = to })
 
+-- the two parts that two bounds declare, or their first fault
 unfoldable pub two_parts : Place → Data → Result (List Part) Fault
 two_parts place value = do
-  form ← between_form place value
+  form ← between_form_at place value
   name ← short_name_in place form.name
   from ← name_in place form.from
   to ← name_in place form.to
@@ -205,6 +212,7 @@ abbrev pub is_so_many : ℕ → Option ℕ → Bool
 is_so_many number None = false
 is_so_many number (Some n) = n == number
 
+-- a document says that it is of this version
 abbrev pub is_of_version : ℕ → Data → Bool
 is_of_version number document = is_so_many number (option_and_then as_u64 (option_and_then as_number (get (codes "stnu") document)))
 
@@ -251,7 +259,7 @@ unfoldable pub top_of : Data → Result Lists Fault
 top_of document = do
   known ← unless (has_members (known_members document) document) (shape Top 0)
   version ← unless (is_version document) (shape Top 0)
-  points ← or_fault (shape Top 0) (list_at (codes "points") document)
+  points ← or_fault (shape Top 0) (array_at (codes "points") document)
   bounds ← or_fault (shape Top 0) (list_or_none (get (codes "bounds") document))
   between ← or_fault (shape Top 0) (list_or_none (get (codes "between") document))
   links ← or_fault (shape Top 0) (list_or_none (get (codes "links") document))

@@ -1,5 +1,5 @@
 pub mod Document
 pub mod DocumentGrammar
-pub mod Reading
+pub mod DocumentReading
 pub mod Words
-pub mod Writing
+pub mod DocumentText

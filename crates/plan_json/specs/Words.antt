@@ -6,6 +6,7 @@ use Rattle.plan_json.specs.declared.fault.JsonFault.TheVariants.{NotJson, Shape,
 use Rattle.plan_json.specs.declared.fault.Member.{Member}
 use Rattle.plan_json.specs.declared.fault.Member.TheVariants.{Top, Points, Bounds, Between, Links}
 
+-- the word of a part of a document
 abbrev pub member_word : Member → List ℕ
 member_word Top = codes "top"
 member_word Points = codes "points"
@@ -13,6 +14,7 @@ member_word Bounds = codes "bounds"
 member_word Between = codes "between"
 member_word Links = codes "links"
 
+-- a fault of a document: its word, the word of the part in which it is, and the place of the item there
 abbrev pub json_fault_text : JsonFault → List ℕ
 json_fault_text NotJson = codes "not-json"
 json_fault_text (Shape member place) = codes "shape " ++ member_word member ++ codes " " ++ decimal place

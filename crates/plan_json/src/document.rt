@@ -1,12 +1,20 @@
 //! The delay and the parts of a document.
 
-ghost use Rattle.std.specs.Prelude.{◌≡◌, ◌<◌, ◌≤◌, ◌≤ℤ◌, ◌^◌, ◌+◌, pos, true, unsigned_abs, length, map, option_map, codes, IfErr, IfOk, OnOk, ◌++◌, ◌∷◌, []};
+ghost use Rattle.std.specs.Prelude.{◌≡◌, ◌<◌, ◌≤◌, ◌≤ℤ◌, ◌^◌, ◌+◌, pos, true, unsigned_abs, length};
+ghost use Rattle.std.specs.Prelude.{map, option_map, codes, IfErr, IfOk, OnOk, ◌++◌, ◌∷◌, []};
 ghost use Rattle.net_model.specs.Limits.{within_limit, most_delay, most_lines};
 ghost use Rattle.net_model.specs.Names.{most_short};
 ghost use Rattle.serde_json.specs.Find.{get};
 ghost use Rattle.serde_json.specs.View.{view};
-ghost use Rattle.plan_json.specs.Document.{between_form, bound_form, bound_parts, count_of, delay_in, document_plan, from_nought, has_members, is_of_version, is_version, item_parts, items_parts, known_members, link_form, link_parts, list_at, list_or_none, lists_parts, name_in, number_in, number_or_none, place_after, point_parts, second_members, short_name_in, text_at, top_of, two_parts, whole_at};
-ghost use Rattle.plan_json.specs.Reading.{Gives, with_front};
+ghost use Rattle.plan_json.specs.Document.{between_form_at, bound_form_at, bound_parts, count_of};
+ghost use Rattle.plan_json.specs.Document.{delay_in, document_plan, from_nought, has_members};
+ghost use Rattle.plan_json.specs.Document.{is_of_version, is_version, item_parts, items_parts};
+ghost use Rattle.plan_json.specs.Document.{known_members, link_form_at, link_parts, array_at};
+ghost use Rattle.plan_json.specs.Document.{list_or_none, lists_parts, name_in, number_in};
+ghost use Rattle.plan_json.specs.Document.{number_or_none, place_after, point_parts};
+ghost use Rattle.plan_json.specs.Document.{second_members, short_name_in, text_at, top_of};
+ghost use Rattle.plan_json.specs.Document.{two_parts, whole_at};
+ghost use Rattle.plan_json.specs.DocumentReading.{Gives, with_prefix};
 
 use crate::fault::{JsonFault, Member};
 use crate::place::{PartList, Place};
@@ -58,7 +66,8 @@ struct LinkForm<'a> {
 /// The delay and the parts of a document.
 #[tactic(auto, unfolding(crate::specs::Document::lists_plan))]
 pub(crate) fn document_plan(alloc: Global, document: &Value) -> Result<JsonPlan, JsonFault>
-    ensures plan { Gives (λ plan. record { delay = unsigned_abs plan.delay; parts = plan.parts }) result (document_plan (view document.now)) }
+    ensures plan { Gives (λ plan. record { delay = unsigned_abs plan.delay; parts = plan.parts })
+        result (document_plan (view document.now)) }
     ensures from_nought { IfOk result (λ plan. pos 0 ≤ℤ plan.delay) }
     ensures short { IfOk result (λ plan. plan.delay ≤ℤ pos most_delay) }
     ensures few { IfOk result (λ plan. length plan.parts ≤ most_lines) }
@@ -88,7 +97,13 @@ fn delay_in(delay: u64) -> Result<Weight, JsonFault>
 /// The delay and the lists of a document whose form is right.
 #[tactic(auto, unfolding(crate::specs::Document::top_of))]
 fn top_of(document: &Value) -> Result<Lists<'_>, JsonFault>
-    ensures { Gives (λ lists. record { delay = lists.delay; points = map view lists.points.now; bounds = map view lists.bounds.now; between = map view lists.between.now; links = map view lists.links.now }) result (top_of (view document.now)) }
+    ensures { Gives (λ lists. record {
+      delay = lists.delay;
+      points = map view lists.points.now;
+      bounds = map view lists.bounds.now;
+      between = map view lists.between.now;
+      links = map view lists.links.now;
+    }) result (top_of (view document.now)) }
 {
     let wrong = JsonFault::Shape(Member::Top, 0);
     if !has_members(document, known_members(document)) {
@@ -97,7 +112,7 @@ fn top_of(document: &Value) -> Result<Lists<'_>, JsonFault>
     if !is_version(document) {
         return Err(wrong);
     }
-    let points = list_at(document, "points").ok_or(wrong)?;
+    let points = array_at(document, "points").ok_or(wrong)?;
     let bounds = list_or_none(document.get("bounds")).ok_or(wrong)?;
     let between = list_or_none(document.get("between")).ok_or(wrong)?;
     let links = list_or_none(document.get("links")).ok_or(wrong)?;
@@ -166,19 +181,21 @@ fn is_of_version(document: &Value, number: u64) -> bool
     }
 }
 
-/// The member of this name, where it is a list.
+/// The member of this name, if it is a list.
 #[tactic(auto, using(crate::proofs::ViewLemmas::list_found))]
-fn list_at<'a>(document: &'a Value, name: &str) -> Option<&'a [Value]>
-    ensures { option_map (λ list. map view list.now) result ≡ list_at name.now (view document.now) }
+fn array_at<'a>(document: &'a Value, name: &str) -> Option<&'a [Value]>
+    ensures { option_map (λ list. map view list.now) result ≡ array_at name.now
+        (view document.now) }
 {
     let list = document.get(name).and_then(Value::as_array)?;
     Some(list.as_slice())
 }
 
-/// The items of a list, which may be absent; `None` where it is no list.
+/// The items of a list, which may be absent; `None` if it is no list.
 #[tactic(auto, using(crate::proofs::ViewLemmas::list_found))]
 fn list_or_none(found: Option<&Value>) -> Option<&[Value]>
-    ensures { option_map (λ list. map view list.now) result ≡ list_or_none (option_map (λ v. view v.now) found.entry) }
+    ensures { option_map (λ list. map view list.now) result ≡ list_or_none
+        (option_map (λ v. view v.now) found.entry) }
 {
     match found {
         None => Some(&[]),
@@ -189,7 +206,7 @@ fn list_or_none(found: Option<&Value>) -> Option<&[Value]>
     }
 }
 
-/// The whole number from 0 that a value is, which may be absent; `None` where it is another.
+/// The whole number from 0 that a value is, which may be absent; `None` if it is another.
 fn number_or_none(found: Option<&Value>) -> Option<u64>
     ensures { result ≡ number_or_none (option_map (λ v. view v.now) found.entry) }
 {
@@ -212,7 +229,15 @@ fn from_nought(number: Weight) -> Option<u64>
 #[tactic(auto, unfolding(crate::specs::Document::lists_parts))]
 fn push_lists(parts: &mut Vec<Part>, lists: Lists<'_>) -> Result<(), JsonFault>
     requires { length parts.old.items ≤ most_lines }
-    ensures parts { Gives (λ _. parts.new.items) result (with_front parts.old.items (lists_parts (record { delay = lists.entry.delay; points = map view lists.entry.points.now; bounds = map view lists.entry.bounds.now; between = map view lists.entry.between.now; links = map view lists.entry.links.now }))) }
+    ensures parts { Gives (λ _. parts.new.items) result
+        (with_prefix parts.old.items (lists_parts
+        (record {
+          delay = lists.entry.delay;
+          points = map view lists.entry.points.now;
+          bounds = map view lists.entry.bounds.now;
+          between = map view lists.entry.between.now;
+          links = map view lists.entry.links.now;
+        }))) }
     ensures few { OnOk result (length parts.new.items ≤ most_lines) }
 {
     push_items(parts, PartList::Points, lists.points)?;
@@ -224,7 +249,8 @@ fn push_lists(parts: &mut Vec<Part>, lists: Lists<'_>) -> Result<(), JsonFault>
 /// The parts of the items of a list, after those that are there.
 fn push_items(parts: &mut Vec<Part>, list: PartList, items: &[Value]) -> Result<(), JsonFault>
     requires { length parts.old.items ≤ most_lines }
-    ensures parts { Gives (λ _. parts.new.items) result (with_front parts.old.items (items_parts list 0 (map view items.now))) }
+    ensures parts { Gives (λ _. parts.new.items) result
+        (with_prefix parts.old.items (items_parts list 0 (map view items.now))) }
     ensures few { OnOk result (length parts.new.items ≤ most_lines) }
 {
     for (count, item) in items.iter().enumerate() {
@@ -249,7 +275,8 @@ fn push_part(parts: &mut Vec<Part>, part: Part) -> Result<(), JsonFault>
 /// The parts of an item, after those that are there.
 fn push_item(parts: &mut Vec<Part>, place: Place, item: &Value) -> Result<(), JsonFault>
     requires { length parts.old.items ≤ most_lines }
-    ensures parts { Gives (λ _. parts.new.items) result (with_front parts.old.items (item_parts place (view item.now))) }
+    ensures parts { Gives (λ _. parts.new.items) result
+        (with_prefix parts.old.items (item_parts place (view item.now))) }
     ensures more { OnOk result (length parts.old.items < length parts.new.items) }
     ensures few { OnOk result (length parts.new.items ≤ most_lines) }
 {
@@ -277,7 +304,7 @@ fn point_part(place: Place, item: &Value) -> Result<Part, JsonFault>
 fn bound_part(place: Place, item: &Value) -> Result<Part, JsonFault>
     ensures { Gives (λ part. part ∷ []) result (bound_parts place (view item.now)) }
 {
-    let form = bound_form(place, item)?;
+    let form = bound_form_at(place, item)?;
     let name = name_in(place, form.name)?;
     let from = name_in(place, form.from)?;
     let to = name_in(place, form.to)?;
@@ -285,9 +312,14 @@ fn bound_part(place: Place, item: &Value) -> Result<Part, JsonFault>
     Ok(Part::Bound(name, from, to, form.most))
 }
 
-#[tactic(auto, unfolding(crate::specs::Document::bound_form))]
-fn bound_form(place: Place, item: &Value) -> Result<BoundForm<'_>, JsonFault>
-    ensures { Gives (λ form. record { name = form.name.now; from = form.from.now; to = form.to.now; most = form.most }) result (bound_form place (view item.now)) }
+#[tactic(auto, unfolding(crate::specs::Document::bound_form_at))]
+fn bound_form_at(place: Place, item: &Value) -> Result<BoundForm<'_>, JsonFault>
+    ensures { Gives (λ form. record {
+      name = form.name.now;
+      from = form.from.now;
+      to = form.to.now;
+      most = form.most;
+    }) result (bound_form_at place (view item.now)) }
 {
     if !has_members(item, 4) {
         return Err(place.shape());
@@ -308,7 +340,7 @@ fn bound_form(place: Place, item: &Value) -> Result<BoundForm<'_>, JsonFault>
 fn two_parts(place: Place, item: &Value) -> Result<(Part, Part), JsonFault>
     ensures { Gives (λ two. two.0 ∷ two.1 ∷ []) result (two_parts place (view item.now)) }
 {
-    let form = between_form(place, item)?;
+    let form = between_form_at(place, item)?;
     let name = short_name_in(place, form.name)?;
     let from = name_in(place, form.from)?;
     let to = name_in(place, form.to)?;
@@ -317,9 +349,15 @@ fn two_parts(place: Place, item: &Value) -> Result<(Part, Part), JsonFault>
     Ok(between_parts(&name, from, form.low, form.high, to))
 }
 
-#[tactic(auto, unfolding(crate::specs::Document::between_form))]
-fn between_form(place: Place, item: &Value) -> Result<BetweenForm<'_>, JsonFault>
-    ensures { Gives (λ form. record { name = form.name.now; from = form.from.now; low = form.low; high = form.high; to = form.to.now }) result (between_form place (view item.now)) }
+#[tactic(auto, unfolding(crate::specs::Document::between_form_at))]
+fn between_form_at(place: Place, item: &Value) -> Result<BetweenForm<'_>, JsonFault>
+    ensures { Gives (λ form. record {
+      name = form.name.now;
+      from = form.from.now;
+      low = form.low;
+      high = form.high;
+      to = form.to.now;
+    }) result (between_form_at place (view item.now)) }
 {
     if !has_members(item, 5) {
         return Err(place.shape());
@@ -342,7 +380,7 @@ fn between_form(place: Place, item: &Value) -> Result<BetweenForm<'_>, JsonFault
 fn link_part(place: Place, item: &Value) -> Result<Part, JsonFault>
     ensures { Gives (λ part. part ∷ []) result (link_parts place (view item.now)) }
 {
-    let form = link_form(place, item)?;
+    let form = link_form_at(place, item)?;
     let from = name_in(place, form.from)?;
     let to = name_in(place, form.to)?;
     number_in(place, form.low)?;
@@ -350,9 +388,14 @@ fn link_part(place: Place, item: &Value) -> Result<Part, JsonFault>
     Ok(Part::Link(from, form.low, form.high, to))
 }
 
-#[tactic(auto, unfolding(crate::specs::Document::link_form))]
-fn link_form(place: Place, item: &Value) -> Result<LinkForm<'_>, JsonFault>
-    ensures { Gives (λ form. record { from = form.from.now; low = form.low; high = form.high; to = form.to.now }) result (link_form place (view item.now)) }
+#[tactic(auto, unfolding(crate::specs::Document::link_form_at))]
+fn link_form_at(place: Place, item: &Value) -> Result<LinkForm<'_>, JsonFault>
+    ensures { Gives (λ form. record {
+      from = form.from.now;
+      low = form.low;
+      high = form.high;
+      to = form.to.now;
+    }) result (link_form_at place (view item.now)) }
 {
     if !has_members(item, 4) {
         return Err(place.shape());
@@ -369,14 +412,14 @@ fn link_form(place: Place, item: &Value) -> Result<LinkForm<'_>, JsonFault>
     })
 }
 
-/// The member of this name, where it is a text.
+/// The member of this name, if it is a text.
 fn text_at<'a>(value: &'a Value, name: &str) -> Option<&'a str>
     ensures { option_map (λ text. text.now) result ≡ text_at name.now (view value.now) }
 {
     value.get(name).and_then(Value::as_str)
 }
 
-/// The member of this name, where it is a whole number that fits 64 bits.
+/// The member of this name, if it is a whole number that fits 64 bits.
 fn whole_at(value: &Value, name: &str) -> Option<Weight>
     ensures { result ≡ whole_at name.now (view value.now) }
 {

@@ -4,7 +4,7 @@ use std::alloc::{AllocError, AllocFailed};
 use std::error::Error;
 use std::fmt;
 
-/// Where a fault of a document stands: in its top, or in one of its lists.
+/// The part of a document in which a fault is: its top, or one of its lists.
 #[derive(Clone, Copy, Debug, PartialEq, Eq, Hash)]
 pub enum Member {
     Top,
@@ -43,13 +43,15 @@ impl fmt::Display for Member {
     }
 }
 
-/// Why a document is not read: the first fault of it, in the order top, points, bounds, between and links, within a list item by item, and
-/// within an item in the order of the variants. The number is the place of the item in its list, from 1, and 0 at the top.
+/// Why a document is not read: the first fault of it, in the order top, points, bounds, between and
+/// links, within a list item by item, and within an item in the order of the variants. The number
+/// is the place of the item in its list, from 1, and 0 at the top.
 #[derive(Clone, Copy, Debug, PartialEq, Eq, Hash)]
 pub enum JsonFault {
     /// The bytes have no reading as a JSON text; one that nests deeper than 127 has none.
     NotJson,
-    /// The form of the document, or that of an item, is another; or a number is none that is whole and fits 64 bits.
+    /// The form of the document, or that of an item, is another; or a number is none that is whole
+    /// and fits 64 bits.
     Shape(Member, u32),
     /// A text in the place of a name is not a name.
     BadName(Member, u32),

@@ -1,4 +1,4 @@
-//! Where an item of a document stands.
+//! The place of an item in a document.
 
 ghost use Rattle.std.specs.Prelude.{◌≡◌, ◌<◌, ◌^◌, ◌+◌};
 ghost use Rattle.plan_json.specs.Document.{place_after};
@@ -14,7 +14,7 @@ pub(crate) enum PartList {
     Links,
 }
 
-/// Where an item stands: in which list, and at which place there, from 1.
+/// The place of an item: its list, and its number in that list, from 1.
 #[derive(Clone, Copy)]
 pub(crate) struct Place {
     pub(crate) list: PartList,

@@ -5,21 +5,23 @@ ghost use Rattle.net_model.specs.Network.{HasPlanNumbers, IsBound, IsLink, IsPoi
 ghost use Rattle.net_model.specs.NetworkParts.{point_name};
 ghost use Rattle.serde_json.specs.Data.{string};
 ghost use Rattle.serde_json.specs.View.{view};
-ghost use Rattle.plan_json.specs.Writing.{ReadsBack, bound_data, document_of, document_text, link_data};
+ghost use Rattle.plan_json.specs.DocumentText.{DocumentReadsBack, bound_data, document_of};
+ghost use Rattle.plan_json.specs.DocumentText.{document_text, link_data};
 
 use net_model::{Bound, Link, Name, Network, PointId};
 use serde_json::{Value, json};
 use std::alloc::{AllocError, Global};
 
-/// The document of a network, in version 2, in the pretty layout of `serde_json`: an object of `bounds`, `delay`, `links`, `points` and
-/// `stnu`, with the members of each item in alphabetical order, and no line end after it. It reads back to the same three lists and the
-/// same delay. The numbers of the network are at most 1,000,000,000 in size, as those of a built network are. `AllocError` comes only for
-/// want of memory.
-#[tactic(auto, using(crate::proofs::WritingLemmas::text_is, crate::proofs::WritingLemmas::reads_back))]
+/// The document of a network, in version 2, in the pretty layout of `serde_json`: an object of
+/// `bounds`, `delay`, `links`, `points` and `stnu`, with the members of each item in alphabetical
+/// order, and no line end after it. It reads back to the same three lists and the same delay. The
+/// numbers of the network are at most 1,000,000,000 in size, as those of a built network are.
+/// `AllocError` comes only for want of memory.
+#[tactic(auto, using(crate::proofs::WrittenDocumentLemmas::text_is, crate::proofs::WrittenDocumentLemmas::reads_back))]
 pub fn to_json(alloc: Global, net: &Network) -> Result<Vec<u8>, AllocError>
     requires { HasPlanNumbers net.now }
     ensures text { IfOk result (λ text. text.items ≡ document_text (document_of net.now)) }
-    ensures read_back { IfOk result (λ text. ReadsBack text.items net.now) }
+    ensures read_back { IfOk result (λ text. DocumentReadsBack text.items net.now) }
 {
     net.sound();
     let document = document_of(alloc, net)?;
@@ -48,7 +50,8 @@ fn texts_of(alloc: Global, names: &[Name]) -> Result<Vec<Value>, AllocError>
 }
 
 fn bounds_of(alloc: Global, net: &Network) -> Result<Vec<Value>, AllocError>
-    ensures { IfOk result (λ values. map view values.items ≡ map (bound_data net.now.points) net.now.bounds) }
+    ensures { IfOk result (λ values. map view values.items ≡ map
+        (bound_data net.now.points) net.now.bounds) }
 {
     let mut values = Vec::new(alloc);
     for bound in net.bounds() {
@@ -58,7 +61,8 @@ fn bounds_of(alloc: Global, net: &Network) -> Result<Vec<Value>, AllocError>
 }
 
 fn links_of(alloc: Global, net: &Network) -> Result<Vec<Value>, AllocError>
-    ensures { IfOk result (λ values. map view values.items ≡ map (link_data net.now.points) net.now.links) }
+    ensures { IfOk result (λ values. map view values.items ≡ map
+        (link_data net.now.points) net.now.links) }
 {
     let mut values = Vec::new(alloc);
     for link in net.links() {

@@ -2,4 +2,4 @@ pub mod Talks
 pub mod Windows
 pub mod FirstLines
 pub mod Readings
-pub mod Answering
+pub mod ReaderAnswers

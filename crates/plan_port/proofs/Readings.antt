@@ -7,11 +7,11 @@ use Rattle.std.proofs.lemmas.List.{append-nil, take-append-le, take_at, length-a
 use Rattle.std.proofs.lemmas.List.Elements.{All-append, All-nil, All-cons}
 use Rattle.plan_port.specs.Talk.{Talk, Seen, TakesOnce, bytes_given, after_take, counted_take, with_pieces, with_failed_take}
 use Rattle.plan_port.specs.Lines.{DecideNothing}
-use Rattle.plan_port.specs.Reader.{Reader, Takes, with_pieces_kept, room, remaining, after_takes, counted_takes}
-use Rattle.plan_port.specs.Reading.{with_bytes_kept, ended_after, has_failed, pieces_given}
+use Rattle.plan_port.specs.Reader.{Reader, Takes, with_pieces_kept, spare_capacity, remaining, after_takes, counted_takes}
+use Rattle.plan_port.specs.ReaderSteps.{with_bytes_kept, ended_after, has_failed, pieces_given}
 use Rattle.plan_port.specs.declared.ports.Took.{Took}
 use Rattle.plan_port.specs.declared.ports.Took.TheVariants.{Bytes, End, Failed}
-use Rattle.plan_port.proofs.Talks.{WhereTold-same, changed_twice, with_pieces-nil, with_pieces-with_pieces, LosesFront-nil, LosesFront-twice, concat-append}
+use Rattle.plan_port.proofs.Talks.{WhereShown-same, changed_twice, with_pieces-nil, with_pieces-with_pieces, LosesPrefix-nil, LosesPrefix-twice, concat-append}
 
 -- each take that doesn't fail brings the reader nearer to a decision
 abbrev pub distance : ℕ → Reader → ℕ
@@ -20,8 +20,8 @@ distance longest r = 2 * (longest + 1 - length r.kept) + cond r.ended 0 1
 pub Takes-none : (longest : ℕ) (old : Reader) (seen : Seen) → Takes longest old (with_pieces_kept old [] old.ended) [] false seen seen
 Takes-none longest old seen = record {
   reader = refl;
-  talk = WhereTold-same seen.talk (λ was is. is ≡ with_pieces was []) with_pieces-nil;
-  left = LosesFront-nil seen.left;
+  talk = WhereShown-same seen.talk (λ was is. is ≡ with_pieces was []) with_pieces-nil;
+  left = LosesPrefix-nil seen.left;
   filled = All-nil (λ (piece : List ℕ). 0 < length piece);
   undecided = λ k h. absurd (omega arith);
   none_after_end = λ e. (refl, e);
@@ -54,14 +54,14 @@ kept_twice : (r : Reader) (pieces more : List (List ℕ)) (ended ended' : Bool) 
 kept_twice r pieces more ended ended' =
     ap (λ (l : List ℕ). record r { text = []; kept = l; ended = ended' }) (append_assoc r.kept (concat pieces) (concat more) ∙ ap (λ (l : List ℕ). r.kept ++ l) (sym (concat-append pieces more)))
 
-undecided_at : (longest room : ℕ) (kept : List ℕ) (pieces more : List (List ℕ)) (k : ℕ) → length more ≤ 1 → k < length (pieces ++ more) → (k < length pieces) ⊎ (length pieces ≤ k) →
-    ((k : ℕ) → k < length pieces → DecideNothing longest room (kept ++ concat (take k pieces))) → DecideNothing longest room (kept ++ concat pieces) →
-    DecideNothing longest room (kept ++ concat (take k (pieces ++ more)))
-undecided_at longest room kept pieces more k one within (inl lt) earlier now =
-    subst (λ (l : List (List ℕ)). DecideNothing longest room (kept ++ concat l)) (sym (take-append-le k pieces more (omega arith))) (earlier k lt)
-undecided_at longest room kept pieces more k one within (inr le) earlier now =
+undecided_at : (longest spare_capacity : ℕ) (kept : List ℕ) (pieces more : List (List ℕ)) (k : ℕ) → length more ≤ 1 → k < length (pieces ++ more) → (k < length pieces) ⊎ (length pieces ≤ k) →
+    ((k : ℕ) → k < length pieces → DecideNothing longest spare_capacity (kept ++ concat (take k pieces))) → DecideNothing longest spare_capacity (kept ++ concat pieces) →
+    DecideNothing longest spare_capacity (kept ++ concat (take k (pieces ++ more)))
+undecided_at longest spare_capacity kept pieces more k one within (inl lt) earlier now =
+    subst (λ (l : List (List ℕ)). DecideNothing longest spare_capacity (kept ++ concat l)) (sym (take-append-le k pieces more (omega arith))) (earlier k lt)
+undecided_at longest spare_capacity kept pieces more k one within (inr le) earlier now =
     let last : length pieces ≡ k = omega (arith, length-append pieces more) in
-    subst (λ (l : List (List ℕ)). DecideNothing longest room (kept ++ concat l)) (sym (take_at pieces more k last)) now
+    subst (λ (l : List (List ℕ)). DecideNothing longest spare_capacity (kept ++ concat l)) (sym (take_at pieces more k last)) now
 
 was_end : (took : Took) (ended : Bool) → ended ≡ false → ended_after took ended ≡ true → took ≡ End
 was_end (Bytes n) ended e e' = absurd (false≢true (sym e ∙ e'))
@@ -83,28 +83,30 @@ counted_is Failed count = refl
 abbrev IsReaderAfter : Reader → Reader → Took → List ℕ → Type 0
 IsReaderAfter mid new took into = new ≡ with_bytes_kept mid (bytes_given took into) (ended_after took mid.ended)
 
--- where a take found the end, the reader holds what it held
-none_at : (longest : ℕ) (mid new : Reader) (took : Took) (into : List ℕ) → took ≡ End → DecideNothing longest (room mid) mid.kept → IsReaderAfter mid new took into → DecideNothing longest (room new) new.kept
+-- if a take found the end, the reader keeps what it kept before
+none_at : (longest : ℕ) (mid new : Reader) (took : Took) (into : List ℕ) → took ≡ End → DecideNothing longest (spare_capacity mid) mid.kept → IsReaderAfter mid new took into → DecideNothing longest (spare_capacity new) new.kept
 none_at longest mid new took into end decides is =
     let kept : mid.kept ++ bytes_given took into ≡ mid.kept = ap (λ (t : Took). mid.kept ++ bytes_given t into) end ∙ append-nil mid.kept in
-    subst (λ (r : Reader). DecideNothing longest (room r) r.kept) (sym is) (subst (λ (l : List ℕ). DecideNothing longest (room mid) l) (sym kept) decides)
+    subst (λ (r : Reader). DecideNothing longest (spare_capacity r) r.kept) (sym is) (subst (λ (l : List ℕ). DecideNothing longest (spare_capacity mid) l) (sym kept) decides)
 
 -- one take more
 pub Takes-more : (longest : ℕ) (old mid new : Reader) (took : Took) (into : List ℕ) (pieces : List (List ℕ)) (a b c : Seen) → Takes longest old mid pieces false a b →
-    TakesOnce b c took into → mid.ended ≡ false → DecideNothing longest (room mid) mid.kept → IsReaderAfter mid new took into →
+    TakesOnce b c took into → mid.ended ≡ false → DecideNothing longest (spare_capacity mid) mid.kept → IsReaderAfter mid new took into →
     Takes longest old new (pieces ++ pieces_given took into) (has_failed took) a c
 Takes-more longest old mid new took into pieces a b c before once unended decides is =
     let more = pieces_given took into in
     let ended : new.ended ≡ ended_after took mid.ended = ap (λ (r : Reader). r.ended) is in
     let same : mid ≡ with_pieces_kept old pieces mid.ended = before.reader in
-    let at : DecideNothing longest (room old) (old.kept ++ concat pieces) = subst (λ (r : Reader). DecideNothing longest (room r) r.kept) same decides in
+    let at : DecideNothing longest (spare_capacity old) (old.kept ++ concat pieces) = subst (λ (r : Reader). DecideNothing longest (spare_capacity r) r.kept) same decides in
     let bytes : bytes_given took into ≡ concat more = sym (given_bytes took into) in
     record {
-      reader = is ∙ ap (λ (l : List ℕ). with_bytes_kept mid l (ended_after took mid.ended)) bytes ∙ ap (λ (r : Reader). with_bytes_kept r (concat more) (ended_after took mid.ended)) same ∙ kept_twice old pieces more mid.ended (ended_after took mid.ended) ∙ ap (λ e. with_pieces_kept old (pieces ++ more) e) (sym ended);
+      reader = is ∙ ap (λ (l : List ℕ). with_bytes_kept mid l (ended_after took mid.ended)) bytes ∙ ap (λ (r : Reader). with_bytes_kept r (concat more) (ended_after took mid.ended)) same
+          ∙ kept_twice old pieces more mid.ended (ended_after took mid.ended) ∙ ap (λ e. with_pieces_kept old (pieces ++ more) e) (sym ended);
       talk = changed_twice a.talk b.talk c.talk (λ t. with_pieces t pieces) (λ t. after_take took into t) (λ t. after_takes (pieces ++ more) (has_failed took) t) (talk_twice took into pieces) before.talk once.talk;
-      left = LosesFront-twice a.left b.left c.left (concat pieces) (bytes_given took into) before.left once.left ∙ ap (λ (l : List ℕ). option_map (λ rest. l ++ rest) c.left) (ap (λ (l : List ℕ). concat pieces ++ l) bytes ∙ sym (concat-append pieces more));
+      left = LosesPrefix-twice a.left b.left c.left (concat pieces) (bytes_given took into) before.left once.left
+          ∙ ap (λ (l : List ℕ). option_map (λ rest. l ++ rest) c.left) (ap (λ (l : List ℕ). concat pieces ++ l) bytes ∙ sym (concat-append pieces more));
       filled = All-append (λ (piece : List ℕ). 0 < length piece) pieces more before.filled (given_filled took into b c once);
-      undecided = λ k h. undecided_at longest (room old) old.kept pieces more k (at_most_one took into) h (cases_lt k (length pieces)) before.undecided at;
+      undecided = λ k h. undecided_at longest (spare_capacity old) old.kept pieces more k (at_most_one took into) h (cases_lt k (length pieces)) before.undecided at;
       none_after_end = λ e. absurd (false≢true (sym unended ∙ (before.none_after_end e).1));
       all_at_end = λ e e'. once.at_end (was_end took mid.ended unended (sym ended ∙ e'));
       none_at_end = λ e e'. none_at longest mid new took into (was_end took mid.ended unended (sym ended ∙ e')) decides is;
@@ -112,7 +114,8 @@ Takes-more longest old mid new took into pieces a b c before once unended decide
       write_faults = once.write_faults ∙ before.write_faults;
     }
 
-pub nearer : (longest : ℕ) (mid new : Reader) (took : Took) (into : List ℕ) (a b : Seen) → (took ≡ Failed → ⊥) → TakesOnce a b took into → mid.ended ≡ false → length mid.kept ≤ longest → IsReaderAfter mid new took into → distance longest new < distance longest mid
+pub nearer : (longest : ℕ) (mid new : Reader) (took : Took) (into : List ℕ) (a b : Seen) → (took ≡ Failed → ⊥) → TakesOnce a b took into → mid.ended ≡ false → length mid.kept ≤ longest → IsReaderAfter mid new took into
+    → distance longest new < distance longest mid
 nearer longest mid new (Bytes n) into a b h once e small is =
     let within = once.within in
     let kept = ap (λ (r : Reader). length r.kept) is ∙ length-append mid.kept (take n into) in
@@ -140,7 +143,8 @@ not_has_failed Failed h = absurd (h refl)
 same_some : (x y : List ℕ) → Some x ≡ Some y → x ≡ y
 same_some x y e = cc
 
-remaining_by : (ended ended' : Bool) (kept given before after : List ℕ) → before ≡ given ++ after → (ended ≡ true → (given ≡ []) × (ended' ≡ true)) → (ended ≡ false → ended' ≡ true → after ≡ []) → kept ++ cond ended [] before ≡ (kept ++ given) ++ cond ended' [] after
+remaining_by : (ended ended' : Bool) (kept given before after : List ℕ) → before ≡ given ++ after → (ended ≡ true → (given ≡ []) × (ended' ≡ true)) → (ended ≡ false → ended' ≡ true → after ≡ [])
+    → kept ++ cond ended [] before ≡ (kept ++ given) ++ cond ended' [] after
 remaining_by true true kept given before after left none all = sym (ap (λ (l : List ℕ). (kept ++ l) ++ []) (none refl).0 ∙ append-nil (kept ++ []))
 remaining_by true false kept given before after left none all = absurd (false≢true (none refl).1)
 remaining_by false true kept given before after left none all =
@@ -148,14 +152,15 @@ remaining_by false true kept given before after left none all =
 remaining_by false false kept given before after left none all =
     ap (λ (l : List ℕ). kept ++ l) left ∙ sym (append_assoc kept given after)
 
--- the bytes that are left are told before the takes and after them
-pub record LeftTold (a b : Seen) (before after : List ℕ) : Type 0 where
+-- the bytes that are left are shown before the takes and after them
+pub record LeftShown (a b : Seen) (before after : List ℕ) : Type 0 where
   pub then : a.left ≡ Some before
   pub now : b.left ≡ Some after
 
-pub remaining_same : (longest : ℕ) (old full : Reader) (pieces : List (List ℕ)) (failed : Bool) (a b : Seen) (before after : List ℕ) → LeftTold a b before after → Takes longest old full pieces failed a b → remaining old before ≡ remaining full after
-remaining_same longest old full pieces failed a b before after told t =
-    let left : before ≡ concat pieces ++ after = same_some before (concat pieces ++ after) (sym told.then ∙ (t.left ∙ ap (λ (o : Option (List ℕ)). option_map (λ rest. concat pieces ++ rest) o) told.now)) in
-    let all : old.ended ≡ false → full.ended ≡ true → after ≡ [] = λ e e'. subst (λ (o : Option (List ℕ)). IfSome o (λ bytes. bytes ≡ [])) told.now (t.all_at_end e e') in
+pub remaining_same : (longest : ℕ) (old full : Reader) (pieces : List (List ℕ)) (failed : Bool) (a b : Seen) (before after : List ℕ) → LeftShown a b before after → Takes longest old full pieces failed a b
+    → remaining old before ≡ remaining full after
+remaining_same longest old full pieces failed a b before after shown t =
+    let left : before ≡ concat pieces ++ after = same_some before (concat pieces ++ after) (sym shown.then ∙ (t.left ∙ ap (λ (o : Option (List ℕ)). option_map (λ rest. concat pieces ++ rest) o) shown.now)) in
+    let all : old.ended ≡ false → full.ended ≡ true → after ≡ [] = λ e e'. subst (λ (o : Option (List ℕ)). IfSome o (λ bytes. bytes ≡ [])) shown.now (t.all_at_end e e') in
     remaining_by old.ended full.ended old.kept (concat pieces) before after left (λ e. (ap (λ (l : List (List ℕ)). concat l) (t.none_after_end e).0, (t.none_after_end e).1)) all
     ∙ ap (λ (l : List ℕ). l ++ cond full.ended [] after) (sym (ap (λ (r : Reader). r.kept) t.reader))

@@ -16,7 +16,7 @@ use lib.Seq.{take-add}
 
 pub grown : (xs ys : List ℕ) (start end k n : ℕ) → start ≤ end → end ≤ length xs → n ≤ length ys → slice_range (put_mid end k xs ys) start (end + n) ≡ slice_range xs start end ++ take n ys
 grown xs ys start end k n ordered within fits =
-    let front = length-take-le end xs within in
+    let prefix = length-take-le end xs within in
     let held = drop start (take end xs) in
     let len : length held ≡ end - start = omega (arith, length-drop start (take end xs)) in
     let sum : end + n - start ≡ (end - start) + n = omega arith in
@@ -27,13 +27,14 @@ grown xs ys start end k n ordered within fits =
     ∙ ap (λ j. take j (held ++ after)) sum ∙ take-add (end - start) n (held ++ after)
     ∙ (rw (take_at held after _ len, drop_at held after _ len, take-append-le n ys (post_of end k xs) fits, same) refl)
 
--- what stands before the place of a write
+-- what comes before the place of a write
 pub below : (xs ys : List ℕ) (i j a k : ℕ) → j ≤ a → a ≤ length xs → slice_range (put_mid a k xs ys) i j ≡ slice_range xs i j
 below xs ys i j a k le within =
     between_is (put_mid a k xs ys) i j ∙ ap (λ (l : List ℕ). drop i l) (take-put_mid_below a k xs ys j le within) ∙ sym (between_is xs i j)
 
 -- a vector's items after a write into a part of it that was lent
-pub lent : (items d ys : List ℕ) (len a : ℕ) → d ≡ items → len ≡ length items → a ≤ len → length ys ≡ length d - a → take len (put_mid a (length d - a) d ys ++ drop (length (put_mid a (length d - a) d ys)) items) ≡ put_mid a (length d - a) items ys
+pub lent : (items d ys : List ℕ) (len a : ℕ) → d ≡ items → len ≡ length items → a ≤ len → length ys ≡ length d - a
+    → take len (put_mid a (length d - a) d ys ++ drop (length (put_mid a (length d - a) d ys)) items) ≡ put_mid a (length d - a) items ys
 lent items d ys len a same size within fits =
     let whole = put_mid a (length d - a) d ys in
     let same_size : length d ≡ length items = ap (λ (l : List ℕ). length l) same in
@@ -46,7 +47,7 @@ consumed xs start end count inside =
     sym (ap (λ j. drop count (take j (drop start xs))) parts ∙ drop-take count _ (drop start xs)
     ∙ ap (take (end - (start + count))) (drop-drop count start xs))
 
--- a part of a list is its own front and what stands after that
+-- a part of a list is its own prefix and what follows that
 pub split_range : (xs : List ℕ) (i j k : ℕ) → i ≤ j → j ≤ k → slice_range xs i k ≡ slice_range xs i j ++ slice_range xs j k
 split_range xs i j k le le' =
     let sum : k - i ≡ (j - i) + (k - j) = omega arith in
@@ -67,15 +68,15 @@ none_from_test true place size is le e = absurd (none-some place e)
 none_from_test false place size is le e = grind (arith, nat_tests)
 
 module _ (p : ℕ → Bool) where
-  pub position_or_len-after : (front back : List ℕ) → position_or_len p front ≡ length front → position_or_len p (front ++ back) ≡ length front + position_or_len p back
-  position_or_len-after front back none =
-      prefix_len-append _ front back ∙ ap (λ t. cond t (length front + position_or_len p back) (position_or_len p front)) (eq-eqb _ _ none)
+  pub position_or_len-after : (prefix back : List ℕ) → position_or_len p prefix ≡ length prefix → position_or_len p (prefix ++ back) ≡ length prefix + position_or_len p back
+  position_or_len-after prefix back none =
+      prefix_len-append _ prefix back ∙ ap (λ t. cond t (length prefix + position_or_len p back) (position_or_len p prefix)) (eq-eqb _ _ none)
 
-  -- the first place that passes, where nothing in the front does
-  pub position-after : (front back : List ℕ) → position_or_len p front ≡ length front → position p (front ++ back) ≡ option_map (λ i. length front + i) (position p back)
-  position-after front back none =
-      let place = position_or_len-after front back none in
-      rw (place, length-append front back) (shifted (length front) (position_or_len p back) (length back))
+  -- the first place that passes, if nothing in the prefix does
+  pub position-after : (prefix back : List ℕ) → position_or_len p prefix ≡ length prefix → position p (prefix ++ back) ≡ option_map (λ i. length prefix + i) (position p back)
+  position-after prefix back none =
+      let place = position_or_len-after prefix back none in
+      rw (place, length-append prefix back) (shifted (length prefix) (position_or_len p back) (length back))
 
   pub none_from_position : (xs : List ℕ) → None ≡ position p xs → position_or_len p xs ≡ length xs
   none_from_position xs e = none_from_test (nat_lt (position_or_len p xs) (length xs)) (position_or_len p xs) (length xs) refl (prefix_len-le-length _ xs) e
@@ -87,7 +88,8 @@ gives_nothing End into h = refl
 gives_nothing Failed into h = refl
 
 -- a line end that was found after the part that has none
-pub found : (p : ℕ → Bool) (items : List ℕ) (s m e place : ℕ) → s ≤ m → m ≤ e → e ≤ length items → position_or_len p (slice_range items s m) ≡ m - s → Some place ≡ position p (slice_range items m e) → Some (m - s + place) ≡ position p (slice_range items s e)
+pub found : (p : ℕ → Bool) (items : List ℕ) (s m e place : ℕ) → s ≤ m → m ≤ e → e ≤ length items → position_or_len p (slice_range items s m) ≡ m - s → Some place ≡ position p (slice_range items m e)
+    → Some (m - s + place) ≡ position p (slice_range items s e)
 found p items s m e place le le' within none is =
     let size = length_range items s m le (omega arith) in
     let after = position-after p (slice_range items s m) (slice_range items m e) (none ∙ sym size) in
@@ -97,7 +99,8 @@ found p items s m e place le le' within none is =
     ∙ ap (λ (l : List ℕ). position p l) (sym (split_range items s m e le le'))
 
 -- none was found there
-pub not_found : (p : ℕ → Bool) (items : List ℕ) (s m e : ℕ) → s ≤ m → m ≤ e → e ≤ length items → position_or_len p (slice_range items s m) ≡ m - s → None ≡ position p (slice_range items m e) → (None ≡ position p (slice_range items s e)) × (position_or_len p (slice_range items s e) ≡ e - s)
+pub not_found : (p : ℕ → Bool) (items : List ℕ) (s m e : ℕ) → s ≤ m → m ≤ e → e ≤ length items → position_or_len p (slice_range items s m) ≡ m - s → None ≡ position p (slice_range items m e)
+    → (None ≡ position p (slice_range items s e)) × (position_or_len p (slice_range items s e) ≡ e - s)
 not_found p items s m e le le' within none is =
     let size = length_range items s m le (omega arith) in
     let size' = length_range items m e le' within in

@@ -1,10 +1,10 @@
 pub mod Limits
 pub mod Talk
-pub mod Writing
+pub mod WrittenBytes
 pub mod Lines
 pub mod Reader
-pub mod Held
-pub mod Reading
+pub mod WindowContents
+pub mod ReaderSteps
 pub mod Supply
 pub mod Memory
 pub mod Steady

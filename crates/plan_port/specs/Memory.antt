@@ -26,8 +26,8 @@ seen_of port =
     record { talk = Some port.talk; left = Some port.left; read_faults = port.read_faults; write_faults = port.write_faults }
 
 -- a port over which nothing was said
-abbrev pub unused : (input cuts failing_takes failing_puts : List ℕ) → Memory
-unused input cuts failing_takes failing_puts =
+abbrev pub unused_port : (input cuts failing_takes failing_puts : List ℕ) → Memory
+unused_port input cuts failing_takes failing_puts =
     record {
       talk = silence;
       left = input;
@@ -64,8 +64,8 @@ abbrev pub after_failed_put : Memory → Memory
 after_failed_put port =
     record port { talk = with_failed_put port.talk; write_faults = raised port.write_faults }
 
--- a take is the one with the next number. It fails where that is listed, or where there is no memory to keep its piece.
--- Else it gives the most that its cut, the place and what is left allow, from the front of what is left.
+-- a take is the one with the next number. It fails if that is listed, or if there is no memory to keep its piece. Else it gives the most that its cut, the
+-- place and what is left allow, from the start of what is left.
 abbrev pub TakesNext : Memory → Memory → Took → List ℕ → Type 0
 TakesNext old new (Bytes size) into =
     let number = raised old.takes in
@@ -82,8 +82,7 @@ TakesNext old new Failed into =
     ((is_listed old.failing_takes number ≡ true) ⊎ (0 < length old.left))
     × (new ≡ after_failed_take (record old { takes = number }))
 
--- a put is the one with the next number. It fails where that is listed, or where there is no memory to keep the piece.
--- Else it writes the whole piece.
+-- a put is the one with the next number. It fails if that is listed, or if there is no memory to keep the piece. Else it writes the whole piece.
 abbrev pub PutsNext : Memory → Memory → Sent → List ℕ → Type 0
 PutsNext old new (Wrote size) piece =
     let number = raised old.puts in

@@ -25,8 +25,7 @@ pub record Talk : Type 0 where
   pub failed_take : Option TalkPlace
   pub failed_put : Option TalkPlace
 
--- what contracts see of a port: the talk and the bytes still to come, each where the port tells it, and how often a take
--- and how often a put has failed
+-- what contracts see of a port: the talk and the bytes still to come, each if the port shows it, and how often a take and how often a put has failed
 pub record Seen : Type 0 where
   pub talk : Option Talk
   pub left : Option (List ℕ)
@@ -37,9 +36,9 @@ pub record Seen : Type 0 where
 abbrev pub silence : Talk
 silence = record { taken = []; put = []; failed_take = None; failed_put = None }
 
--- a port that tells nothing but its two counts
-abbrev pub untold : (read_faults write_faults : ℕ) → Seen
-untold reads writes = record { talk = None; left = None; read_faults = reads; write_faults = writes }
+-- a port that shows nothing but its two counts
+abbrev pub counts_only : (read_faults write_faults : ℕ) → Seen
+counts_only reads writes = record { talk = None; left = None; read_faults = reads; write_faults = writes }
 
 -- a count with one more, up to its last value
 abbrev pub raised : ℕ → ℕ
@@ -66,13 +65,13 @@ with_failed_take talk = record talk { failed_take = Some (place_in_talk talk) }
 abbrev pub with_failed_put : Talk → Talk
 with_failed_put talk = record talk { failed_put = Some (place_in_talk talk) }
 
--- what is told after a call was told before it, and the two are so related
-abbrev pub WhereTold : {A : Type 0} → (old new : Option A) → (A → A → Type 0) → Type 0
-WhereTold old new Related = IfSome new (λ after. IsSomeAnd old (λ before. Related before after))
+-- what is shown after a call was shown before it, and the two are so related
+abbrev pub WhereShown : {A : Type 0} → (old new : Option A) → (A → A → Type 0) → Type 0
+WhereShown old new Related = IfSome new (λ after. IsSomeAnd old (λ before. Related before after))
 
--- what is left is told after a call exactly where it was told before it, and lost these bytes from its front
-abbrev pub LosesFront : Option (List ℕ) → Option (List ℕ) → List ℕ → Type 0
-LosesFront old new bytes = old ≡ option_map (λ rest. bytes ++ rest) new
+-- what is left is shown after a call exactly if it was shown before it, and lost these bytes from its start
+abbrev pub LosesPrefix : Option (List ℕ) → Option (List ℕ) → List ℕ → Type 0
+LosesPrefix old new bytes = old ≡ option_map (λ rest. bytes ++ rest) new
 
 -- a take that gives bytes gives at least one and no more than there is place for
 abbrev pub TakesWithin : Took → ℕ → Type 0
@@ -95,12 +94,12 @@ abbrev pub counted_take : Took → ℕ → ℕ
 counted_take Failed count = raised count
 counted_take _ count = count
 
--- what one take did: its bytes are within bounds, the talk changed by this call alone, what is left lost just the bytes
--- given, the input ended only where nothing is left, and a failed take is counted once
+-- what one take did: its bytes are within bounds, the talk changed by this call alone, what is left lost just the bytes given, the input ended only if nothing
+-- is left, and a failed take is counted once
 pub record TakesOnce (old new : Seen) (took : Took) (into : List ℕ) : Type 0 where
   pub within : TakesWithin took (length into)
-  pub talk : WhereTold old.talk new.talk (λ before after. after ≡ after_take took into before)
-  pub left : LosesFront old.left new.left (bytes_given took into)
+  pub talk : WhereShown old.talk new.talk (λ before after. after ≡ after_take took into before)
+  pub left : LosesPrefix old.left new.left (bytes_given took into)
   pub at_end : took ≡ End → IfSome new.left (λ bytes. bytes ≡ [])
   pub read_faults : new.read_faults ≡ counted_take took old.read_faults
   pub write_faults : new.write_faults ≡ old.write_faults
@@ -124,7 +123,7 @@ counted_put _ count = count
 -- is counted once
 pub record PutsOnce (old new : Seen) (sent : Sent) (piece : List ℕ) : Type 0 where
   pub within : WritesWithin sent (length piece)
-  pub talk : WhereTold old.talk new.talk (λ before after. after ≡ after_put sent piece before)
+  pub talk : WhereShown old.talk new.talk (λ before after. after ≡ after_put sent piece before)
   pub left : new.left ≡ old.left
   pub read_faults : new.read_faults ≡ old.read_faults
   pub write_faults : new.write_faults ≡ counted_put sent old.write_faults

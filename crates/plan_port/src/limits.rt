@@ -1,4 +1,5 @@
 //! The greatest sizes of what comes over a port.
+
 ghost use Rattle.std.specs.Prelude.{◌≡◌};
 ghost use Rattle.texts.specs.Limits.{most_line};
 ghost use Rattle.plan_port.specs.Limits.{most_read};
@@ -9,7 +10,7 @@ use texts::MOST_LINE;
 pub const MOST_READ: u64 = 2_147_483_647;
 
 /// The limits of the code are those of the definitions.
-pub fn limits_are_defined()
+pub fn law_limits_are_defined()
     ensures line { MOST_LINE ≡ most_line }
     ensures read { MOST_READ ≡ most_read }
 {}

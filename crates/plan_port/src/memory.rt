@@ -1,7 +1,10 @@
 //! A port in memory, whose takes can be cut short and whose calls can be made to fail.
+
 ghost use Rattle.std.specs.Prelude.{◌≡◌, ◌+◌, ◌<◌, ◌≤◌, [], length, min, take, drop, OnOk, OnErr};
 ghost use Rattle.plan_port.specs.Talk.{TakesOnce, PutsOnce, raised, with_put};
-ghost use Rattle.plan_port.specs.Memory.{Memory, seen_of, unused, is_listed, limit, after_piece, after_failed_take, after_failed_put, TakesNext, PutsNext};
+ghost use Rattle.plan_port.specs.Memory.{Memory, seen_of, unused_port, is_listed, limit};
+ghost use Rattle.plan_port.specs.Memory.{after_piece, after_failed_take, after_failed_put};
+ghost use Rattle.plan_port.specs.Memory.{TakesNext, PutsNext};
 
 use crate::ports::{Port, Sent, Took};
 use crate::source::Source;
@@ -15,11 +18,13 @@ pub(crate) struct Reached {
     put: usize,
 }
 
-/// A port over bytes in memory. It tells what was said over it and what is left.
+/// A port over bytes in memory. It shows what was said over it and what is left.
 ///
-/// The takes are counted from 1, and so are the puts. Those listed fail. Each other take gives the most that its
-/// cut, the place and what is left allow, where the cut of the i-th take is the i-th of `cuts`, if that is above 0;
-/// each other put takes its whole piece. A take or a put that finds no memory to keep what the talk needs fails too.
+/// The takes are counted from 1, and so are the puts. Those listed fail. Each other take gives the
+/// most that its cut, the place and what is left allow; the cut of the i-th take is the i-th of
+/// `cuts`, if that is above 0. Each other put takes its whole piece. A take or a put that finds no
+/// memory to keep what the talk needs fails too. Clause `next` of its two calls says this
+/// (`TakesNext`, `PutsNext`), beside the clause of every port.
 #[derive(Drop)]
 pub struct MemoryPort {
     source: Source,
@@ -68,7 +73,8 @@ impl MemoryPort {
         failing_takes: Vec<u32>,
         failing_puts: Vec<u32>,
     ) -> MemoryPort
-        ensures { result ≡ unused input.items cuts.items failing_takes.items failing_puts.items }
+        ensures { result ≡ unused_port input.items cuts.items failing_takes.items
+            failing_puts.items }
     {
         MemoryPort {
             source: Source::new(alloc, input),
@@ -130,7 +136,7 @@ impl MemoryPort {
         most.min(self.source.size_left())
     }
 
-    /// Gives bytes from the front of what is left.
+    /// Gives bytes from the start of what is left.
     fn give(&mut self, into: &mut [u8], size: usize) -> Result<(), AllocError>
         requires place { size ≤ length into.old }
         requires left { size ≤ length self.old.left }
@@ -163,7 +169,8 @@ impl MemoryPort {
 
     /// Keeps bytes that are put.
     fn keep(&mut self, piece: &[u8]) -> Result<(), AllocError>
-        ensures ok { OnOk result (self.new ≡ record self.old { talk = with_put self.old.talk piece.now }) }
+        ensures ok { OnOk result (self.new ≡ record self.old
+            { talk = with_put self.old.talk piece.now }) }
         ensures err { OnErr result (self.new ≡ self.old) }
     {
         self.output.extend_from_slice(piece)

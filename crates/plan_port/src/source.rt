@@ -1,11 +1,12 @@
 //! The input of a port in memory.
+
 ghost use Rattle.std.specs.Prelude.{◌≡◌, ◌<◌, ◌≤◌, [], length, take, IfOk, OnOk, OnErr};
 ghost use Rattle.plan_port.specs.Supply.{Supply, Gives};
 
 use std::alloc::{AllocError, Global};
 use std::marker::Model;
 
-// Where the bytes of a take stand in the input, and how many bytes were put before it.
+// The range of the bytes of a take in the input, and how many bytes were put before it.
 #[derive(Clone, Copy)]
 struct TakenPiece {
     start: usize,
@@ -13,7 +14,7 @@ struct TakenPiece {
     put_before: usize,
 }
 
-/// The bytes of an input, taken from the front, with the pieces in which they were taken.
+/// The bytes of an input, taken from the start, with the pieces in which they were taken.
 #[derive(Drop)]
 pub(crate) struct Source {
     bytes: Vec<u8>,
@@ -31,7 +32,7 @@ impl Model for Source {
     ghost view = { λ s. record {
       taken = map (λ t. record { bytes = slice_range s.bytes.items t.start t.end; put_before = t.put_before }) s.taken.items;
       left = drop s.position s.bytes.items;
-      room = vec_capacity s.taken - vec_len s.taken;
+      spare_capacity = vec_capacity s.taken - vec_len s.taken;
     } };
 
     ghost invariant = { λ s. s.position ≤ vec_len s.bytes };
@@ -50,11 +51,12 @@ impl Source {
         }
     }
 
-    /// The same with room for as many pieces as it has bytes.
-    pub(crate) fn with_room(alloc: Global, bytes: Vec<u8>) -> Result<Source, AllocError>
+    /// The same with capacity for as many pieces as it has bytes.
+    pub(crate) fn with_reserved(alloc: Global, bytes: Vec<u8>) -> Result<Source, AllocError>
         ensures taken { IfOk result (λ source. source.taken ≡ []) }
         ensures left { IfOk result (λ source. source.left ≡ bytes.items) }
-        ensures room { IfOk result (λ source. length source.left ≤ source.room) }
+        ensures spare_capacity { IfOk result
+            (λ source. length source.left ≤ source.spare_capacity) }
     {
         let taken = Vec::with_capacity(alloc, bytes.len())?;
         Ok(Source {
@@ -78,18 +80,18 @@ impl Source {
         self.bytes.len() - self.position
     }
 
-    /// Makes room for one more piece.
+    /// Reserves capacity for one more piece.
     pub(crate) fn reserve(&mut self) -> Result<(), AllocError>
         ensures taken { self.new.taken ≡ self.old.taken }
         ensures left { self.new.left ≡ self.old.left }
-        ensures room { OnOk result (0 < self.new.room) }
+        ensures spare_capacity { OnOk result (0 < self.new.spare_capacity) }
     {
         self.taken.reserve(1)
     }
 
-    /// Gives bytes from the front of what is left.
+    /// Gives bytes from the start of what is left.
     pub(crate) fn give(&mut self, into: &mut [u8], size: usize, put_before: usize)
-        requires room { 0 < self.old.room }
+        requires spare_capacity { 0 < self.old.spare_capacity }
         requires place { size ≤ length into.old }
         requires left { size ≤ length self.old.left }
         ensures gives { Gives self.old self.new size put_before }

@@ -1,12 +1,14 @@
 //! The port over standard input and output.
+
 ghost use Rattle.std.specs.Prelude.{◌≡◌};
-ghost use Rattle.plan_port.specs.Talk.{untold};
+ghost use Rattle.plan_port.specs.Talk.{counts_only};
 
 use crate::ports::{Port, Sent, Took};
 use std::io::{Input, Print, Read};
 
-/// A port over the standard input and output of a runtime. It tells neither what was said over it nor what is left,
-/// and counts its faults. It reads and writes directly, with nothing kept between.
+/// A port over the standard input and output of a runtime. It shows neither what was said over it
+/// nor what is left, and counts its faults. It reads and writes directly, without a buffer. No
+/// contract speaks of the two streams themselves.
 pub struct StdPort<'a, R: Input + Print> {
     input: R::Reader,
     output: &'a R,
@@ -17,7 +19,7 @@ pub struct StdPort<'a, R: Input + Print> {
 impl<'a, R: Input + Print> StdPort<'a, R> {
     /// A port that has had no fault.
     pub fn new(runtime: &'a R) -> StdPort<'a, R>
-        ensures { ⟦<StdPort<'a, R> as Port>⟧.seen result ≡ untold 0 0 }
+        ensures { ⟦<StdPort<'a, R> as Port>⟧.seen result ≡ counts_only 0 0 }
     {
         StdPort {
             input: runtime.reader(),
@@ -40,9 +42,9 @@ impl<R: Input + Print> Drop for StdPort<'_, R> {
 }
 
 impl<R: Input + Print> Port for StdPort<'_, R> {
-    ghost use Rattle.plan_port.specs.Talk.{untold};
+    ghost use Rattle.plan_port.specs.Talk.{counts_only};
 
-    ghost seen = { λ port. untold port.read_faults port.write_faults };
+    ghost seen = { λ port. counts_only port.read_faults port.write_faults };
 
     fn take(&mut self, into: &mut [u8]) -> Took {
         match self.input.read(into) {

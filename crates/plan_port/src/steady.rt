@@ -1,24 +1,31 @@
-//! A port in memory with a fixed room, no call of which fails.
+//! A port in memory with a fixed capacity, no call of which fails.
+
 ghost use Rattle.std.specs.Prelude.{◌≡◌, ◌<◌, ◌≤◌, ◌↔◌, IsTrue, length, min, take, IfOk, is_some};
 ghost use Rattle.plan_port.specs.Talk.{TakesOnce, PutsOnce};
-ghost use Rattle.plan_port.specs.Steady.{Steady, seen_of, unused, after_piece, after_kept, after_lost, TakesMost, PutsWhole};
+ghost use Rattle.plan_port.specs.Steady.{Steady, seen_of, unused_port, after_piece, after_kept};
+ghost use Rattle.plan_port.specs.Steady.{after_lost, TakesMost, PutsWhole};
 
 use crate::ports::{Port, Sent, Took};
 use crate::source::Source;
 use std::alloc::{AllocError, Global};
 use std::marker::Model;
 
-/// A port over bytes in memory that keeps at most so many bytes of what is put. It reserves all that it needs when it is
-/// made, so no later call takes memory, and none fails: both its counts are always 0.
+/// A port over bytes in memory that keeps at most so many bytes of what is put. It reserves all
+/// that it needs when it is made, so no later call takes memory, and none fails: both its counts
+/// are always 0.
 ///
-/// A take gives the most that the place and what is left allow. A put is accepted whole. Its piece is kept where there is
-/// room for it, and lowers the room by its length. Else it is lost and the room stays, and from then on the port tells no
-/// talk; it goes on telling what is left. What fits later is kept all the same.
+/// A take gives the most that the place and what is left allow. A put is accepted whole. Its piece
+/// is kept if there is capacity for it, and lowers the spare capacity by its length. Else it is
+/// lost, the spare capacity stays, and from then on the port shows no talk; it still shows what is
+/// left. What fits later is kept all the same. Clauses `most` of `take` (`TakesMost`) and `whole`
+/// of `put` (`PutsWhole`) say this, beside the clause of every port. That no call takes memory is
+/// how the code is written: what is proved is that it has reserved what it needs, and that no call
+/// fails.
 #[derive(Drop)]
 pub struct SteadyPort {
     source: Source,
     output: Vec<u8>,
-    room: u32,
+    spare_capacity: u32,
     whole: bool,
 }
 
@@ -37,38 +44,39 @@ impl Model for SteadyPort {
         failed_put = None;
       };
       left = p.source.left;
-      room = p.room;
+      spare_capacity = p.spare_capacity;
       whole = p.whole;
     } };
 
-    ghost invariant = { λ p. (length p.source.left ≤ p.source.room)
-        × (vec_len p.output + p.room ≤ vec_capacity p.output) };
+    ghost invariant = { λ p. (length p.source.left ≤ p.source.spare_capacity)
+        × (vec_len p.output + p.spare_capacity ≤ vec_capacity p.output) };
 }
 
 impl SteadyPort {
-    /// A port whose input is `input`, with room for `room` bytes of output. It reserves these and a record for each byte of
-    /// the input, of which a take makes one at most. `AllocError` comes only where these can't be had, and then nothing was made.
+    /// A port whose input is `input`, with capacity for `room` bytes of output. It reserves these
+    /// and a record for each byte of the input, of which a take makes one at most. `AllocError`
+    /// comes only if these can't be had, and then nothing was made.
     pub fn new(alloc: Global, input: Vec<u8>, room: u32) -> Result<SteadyPort, AllocError>
-        ensures { IfOk result (λ port. port ≡ unused input.items room) }
+        ensures { IfOk result (λ port. port ≡ unused_port input.items room) }
     {
-        let source = Source::with_room(alloc, input)?;
+        let source = Source::with_reserved(alloc, input)?;
         let output = Vec::with_capacity(alloc, room as usize)?;
         Ok(SteadyPort {
             source,
             output,
-            room,
+            spare_capacity: room,
             whole: true,
         })
     }
 
-    /// How many more bytes there is room to keep: at first the room given.
+    /// How many more bytes there is capacity to keep: at first the number that `new` got.
     pub fn room(&self) -> u32
-        ensures { result ≡ self.now.room }
+        ensures { result ≡ self.now.spare_capacity }
     {
-        self.room
+        self.spare_capacity
     }
 
-    /// Whether all bytes that were put are kept, which is where the port tells its talk.
+    /// Whether all bytes that were put are kept, which is when the port shows its talk.
     pub fn whole(&self) -> bool
         ensures value { result ≡ self.now.whole }
         ensures talk { result ≡ is_some (seen_of self.now).talk }
@@ -76,7 +84,7 @@ impl SteadyPort {
         self.whole
     }
 
-    /// The bytes that are kept of those that were put: all of them where `whole` is true.
+    /// The bytes that are kept of those that were put: all of them if `whole` is true.
     pub fn written(&self) -> &[u8]
         ensures { result.now ≡ self.now.kept.put }
     {
@@ -90,7 +98,7 @@ impl SteadyPort {
         place.min(self.source.size_left())
     }
 
-    /// Gives bytes from the front of what is left.
+    /// Gives bytes from the start of what is left.
     fn give(&mut self, into: &mut [u8], size: usize)
         requires some { 0 < size }
         requires place { size ≤ length into.old }
@@ -101,19 +109,19 @@ impl SteadyPort {
         self.source.give(into, size, self.output.len());
     }
 
-    fn has_room_for(&self, piece: &[u8]) -> bool
-        ensures { IsTrue result ↔ (length piece.now ≤ self.now.room) }
+    fn has_capacity_for(&self, piece: &[u8]) -> bool
+        ensures { IsTrue result ↔ (length piece.now ≤ self.now.spare_capacity) }
     {
-        piece.len() <= self.room as usize
+        piece.len() <= self.spare_capacity as usize
     }
 
     /// Keeps a piece that is put.
     fn keep(&mut self, piece: &[u8])
-        requires { length piece.now ≤ self.old.room }
+        requires { length piece.now ≤ self.old.spare_capacity }
         ensures { self.new ≡ after_kept self.old piece.now }
     {
         self.output.extend_from_slice(piece).unwrap();
-        self.room -= piece.len() as u32;
+        self.spare_capacity -= piece.len() as u32;
     }
 
     /// Loses a piece that is put.
@@ -138,7 +146,7 @@ impl SteadyPort {
     fn put_whole(&mut self, piece: &[u8]) -> Sent
         ensures { PutsWhole self.old self.new result piece.now }
     {
-        if self.has_room_for(piece) {
+        if self.has_capacity_for(piece) {
             self.keep(piece);
         } else {
             self.lose();

@@ -1,9 +1,11 @@
-//! The bytes that a reader holds: the last line given, and those taken and not given out.
-ghost use Rattle.std.specs.Prelude.{◌≡◌, ℕ, ◌+◌, ◌<◌, ◌^◌, List, [], ◌++◌, length, take, drop, IfOk, IfSome, OnErr, OnOk};
+//! The bytes that a reader keeps: the last line given, and those taken and not given out.
+
+ghost use Rattle.std.specs.Prelude.{◌≡◌, ℕ, ◌+◌, ◌<◌, ◌^◌, List, [], ◌++◌, length, take, drop};
+ghost use Rattle.std.specs.Prelude.{IfOk, IfSome, OnErr, OnOk};
 ghost use Rattle.std.specs.List.{position};
 ghost use Rattle.texts.specs.Limits.{most_line};
 ghost use Rattle.plan_port.specs.Talk.{TakesOnce, bytes_given};
-ghost use Rattle.plan_port.specs.Reading.{ends_line};
+ghost use Rattle.plan_port.specs.ReaderSteps.{ends_line};
 
 use crate::ports::{Port, Took};
 use std::alloc::{AllocError, Global};
@@ -20,18 +22,18 @@ pub(crate) struct Window {
     text_end: usize,
     start: usize,
     end: usize,
-    /// No line end stands in the kept bytes before this one.
+    /// There is no line end in the kept bytes before this one.
     searched: usize,
 }
 
 impl Model for Window {
     ghost use Rattle.std.specs.Prelude.{◌≡◌, ◌<◌, ◌≤◌, ◌-◌, slice_range, vec_len};
     ghost use Rattle.std.specs.List.{position_or_len};
-    ghost use Rattle.plan_port.specs.Held.{Held};
+    ghost use Rattle.plan_port.specs.WindowContents.{WindowContents};
     ghost use Rattle.texts.specs.Limits.{most_line};
-    ghost use Rattle.plan_port.specs.Reading.{ends_line};
+    ghost use Rattle.plan_port.specs.ReaderSteps.{ends_line};
 
-    ghost Value = { Held };
+    ghost Value = { WindowContents };
 
     ghost view = { λ w. record {
       text = slice_range w.bytes.items w.text_start w.text_end;
@@ -42,7 +44,8 @@ impl Model for Window {
     ghost invariant = { λ w. (most_line < vec_len w.bytes)
         × (w.text_start ≤ w.text_end) × (w.text_end ≤ vec_len w.bytes)
         × (w.start ≤ w.searched) × (w.searched ≤ w.end) × (w.end ≤ vec_len w.bytes)
-        × (position_or_len ends_line (slice_range w.bytes.items w.start w.searched) ≡ w.searched - w.start) };
+        × (position_or_len ends_line (slice_range w.bytes.items w.start w.searched) ≡ w.searched -
+        w.start) };
 }
 
 impl Window {
@@ -122,8 +125,8 @@ impl Window {
         self.text_end = 0;
     }
 
-    /// Moves the kept bytes to the front.
-    fn move_to_front(&mut self)
+    /// Moves the kept bytes to the start of the buffer.
+    fn move_to_start(&mut self)
         requires { self.old.text ≡ [] }
         ensures text { self.new.text ≡ [] }
         ensures kept { self.new.kept ≡ self.old.kept }
@@ -138,27 +141,28 @@ impl Window {
         self.end = end - start;
     }
 
-    /// Makes place for a byte more after the kept ones, and forgets the last line, since its place may be needed. `AllocError` comes only
-    /// for want of memory, where more than `MOST_LINE` bytes are kept, and leaves these.
-    pub(crate) fn make_room(&mut self) -> Result<(), AllocError>
+    /// Reserves capacity for a byte more after the kept ones, and forgets the last line, since its
+    /// place may be needed. `AllocError` comes only for want of memory, if more than `MOST_LINE`
+    /// bytes are kept, and leaves these.
+    pub(crate) fn reserve_one(&mut self) -> Result<(), AllocError>
         ensures text { self.new.text ≡ [] }
         ensures kept { self.new.kept ≡ self.old.kept }
-        ensures room { OnOk result (0 < self.new.free) }
+        ensures spare_capacity { OnOk result (0 < self.new.free) }
         ensures wants { OnErr result (most_line < length self.old.kept) }
     {
         self.forget_text();
         if self.start == self.end || self.end == self.bytes.len() {
-            self.move_to_front();
+            self.move_to_start();
         }
         self.grow()
     }
 
-    /// Makes the buffer twice as long where it is full.
+    /// Makes the buffer twice as long if it is full.
     fn grow(&mut self) -> Result<(), AllocError>
         requires { self.old.free ≡ 0 → most_line < length self.old.kept }
         ensures text { self.new.text ≡ self.old.text }
         ensures kept { self.new.kept ≡ self.old.kept }
-        ensures room { OnOk result (0 < self.new.free) }
+        ensures spare_capacity { OnOk result (0 < self.new.free) }
         ensures wants { OnErr result (most_line < length self.old.kept) }
     {
         let size = self.bytes.len();

@@ -11,7 +11,7 @@ use Rattle.plan_session.specs.declared.answers.SessionFault.TheVariants as fault
 use Rattle.plan_session.specs.declared.answers.AskFault.{AskFault}
 use Rattle.plan_session.specs.declared.answers.AskFault.TheVariants as ask_fault
 use Rattle.plan_session.specs.declared.answers.Verdict.{Verdict}
-use Rattle.plan_session.specs.declared.answers.Verdict.TheVariants as told
+use Rattle.plan_session.specs.declared.answers.Verdict.TheVariants as answered
 
 module _ (session : State) (broken : IsBroken session) where
   not_open : IsOpen session → ⊥
@@ -23,18 +23,18 @@ module _ (session : State) (broken : IsBroken session) where
   to_edits edit (Err fault.OutOfMemory) after said = absurd (not_open said.0)
   to_edits edit (Err fault.Broken) after said = (refl, said.1)
 
-  as_verdict : (verdict : Verdict) → IsVerdictOf session verdict → verdict ≡ told.Broken
-  as_verdict told.Controllable is = absurd (not_open is.0)
-  as_verdict told.NotControllable is = absurd (not_open is.0)
-  as_verdict told.Broken is = refl
+  as_verdict : (verdict : Verdict) → IsVerdictOf session verdict → verdict ≡ answered.Broken
+  as_verdict answered.Controllable is = absurd (not_open is.0)
+  as_verdict answered.NotControllable is = absurd (not_open is.0)
+  as_verdict answered.Broken is = refl
 
   as_proof : (answer : Result Certificate AskFault) → AnswersProof session answer → answer ≡ Err ask_fault.Broken
   as_proof (Ok cert) said = absurd (not_open said.0)
   as_proof (Err ask_fault.Broken) said = refl
   as_proof (Err ask_fault.OutOfMemory) said = absurd (not_open said)
 
-pub broken_sessions_say_so : BrokenSessionsSaySo
-broken_sessions_say_so session broken = record {
+pub law_broken_sessions_say_so : BrokenSessionsSaySo
+law_broken_sessions_say_so session broken = record {
   edits = to_edits session broken;
   verdict = as_verdict session broken;
   proof = as_proof session broken;

@@ -6,8 +6,8 @@ use Rattle.net_model.specs.declared.edit.Edit.{Edit}
 use Rattle.closure_model.specs.Derivations.{Support, base_support}
 use Rattle.closure_model.specs.ReferenceRounds.{RoundsEnd, RoundsEndInOneWay}
 use Rattle.closure_model.specs.declared.derivation.Node.{Node}
-use Rattle.derivation_edits.specs.Taken.{new_base_nodes}
-use Rattle.support_records.specs.Followed.{IsFollowed}
+use Rattle.edit_laws.specs.EditNumbers.{new_base_nodes}
+use Rattle.support_records.specs.FollowedStores.{IsFollowed}
 use Rattle.support_records.specs.declared.store.Withdrawn.{Withdrawn}
 use Rattle.plan_session.specs.Laws.{SessionsOpenInOneWay, EditsAreFollowedInOneWay}
 use Rattle.plan_session.specs.Sessions.{Opened}
@@ -15,8 +15,8 @@ use Rattle.plan_session.specs.Sessions.{Opened}
 opened_as : (one other : Opened) → one.support ≡ other.support → one.ending ≡ other.ending → one ≡ other
 opened_as one other support ending = λ i. record { support = support i; ending = ending i }
 
-pub sessions_open_in_one_way : RoundsEndInOneWay → SessionsOpenInOneWay
-sessions_open_in_one_way end net one other a b =
+pub law_sessions_open_in_one_way : RoundsEndInOneWay → SessionsOpenInOneWay
+law_sessions_open_in_one_way end net one other a b =
     let (rounds, support, ending) = end net (base_support net) one.support other.support a.rounds b.rounds one.ending other.ending a.ends b.ends in
     opened_as one other support ending
 
@@ -42,8 +42,8 @@ module _ (old : Plan) (edit : Edit) (new : Plan) (before : Support) where
       let also_counts = b.counts in
       omega (arith, kept, counts, also_counts)
 
-pub edits_are_followed_in_one_way : RoundsEndInOneWay → EditsAreFollowedInOneWay
-edits_are_followed_in_one_way end old edit new before one other report also a b =
+pub law_edits_are_followed_in_one_way : RoundsEndInOneWay → EditsAreFollowedInOneWay
+law_edits_are_followed_in_one_way end old edit new before one other report also a b =
     let start = start_one old edit new before.support a.start b.start a.answer b.answer a.followed b.followed in
     let from = subst (λ (s : Support). RoundsEnd new s report.rounds one.support one.ending) start a.ends in
     let (rounds, support, ending) = end new b.start one.support other.support report.rounds also.rounds one.ending other.ending from b.ends in

@@ -2,7 +2,7 @@
 use Rattle.std.proofs.Common.{◌≡◌, ℕ, List, length, Option, Some, Result, Ok, Err, refl, subst}
 use Rattle.std.specs.Prelude.{IfOk, IfSome}
 use Rattle.std.specs.declared.alloc.AllocError.{AllocError}
-use Rattle.net_model.specs.Editing.{edited}
+use Rattle.net_model.specs.EditedNetwork.{edited}
 use Rattle.net_model.specs.Network.{Plan, IsPlan}
 use Rattle.net_model.specs.ShownForm.{shown_form}
 use Rattle.net_model.specs.declared.edit.Edit.{Edit}
@@ -16,25 +16,25 @@ use Rattle.closure_model.specs.ReferenceRounds.{Ending, closed, looped, RoundsEn
 use Rattle.closure_model.specs.ReferenceRound.{after_round}
 use Rattle.closure_model.specs.Tables.{Graph}
 use Rattle.net_model.proofs.ShownLemmas.{shown_sound}
-use Rattle.derivation_edits.specs.TakenAway.{AreWithdrawn, EditsWithdrawNodes, ShownFormsFollowEdits}
-use Rattle.controllability.specs.Laws.{OrderedClosuresAreControllable, StandingCyclesExclude}
-use Rattle.table_histories.specs.LaterNodes.{LaterNodesFall}
+use Rattle.edit_laws.specs.EditEffects.{AreWithdrawn, EditsWithdrawNodes, ShownFormsFollowEdits}
+use Rattle.closure_laws.specs.Laws.{OrderedClosuresAreControllable, StandingCyclesExclude}
+use Rattle.shared_table_laws.specs.LaterNodes.{LaterNodesImprove}
 use Rattle.parallel_rounds.specs.Propagated.{IsPropagated, OutcomeHolds, ending_of, rounds_of}
 use Rattle.parallel_rounds.specs.declared.outcome.Outcome.{Outcome}
 use Rattle.parallel_rounds.specs.declared.outcome.Outcome.TheVariants.{Closed, Looped}
-use Rattle.support_records.specs.Followed.{IsFollowed}
+use Rattle.support_records.specs.FollowedStores.{IsFollowed}
 use Rattle.support_records.specs.declared.store.Withdrawn.{Withdrawn}
 use Rattle.cert_format.specs.CertificateWords.{HasWeights}
 use Rattle.cert_format.specs.declared.certificate.Certificate.{Certificate}
 use Rattle.cert_checker.specs.Judgement.{judgement_of}
 use Rattle.cert_checker.specs.declared.judgement.Claim.TheVariants.{NotControllable}
 use Rattle.cert_checker.specs.declared.judgement.Judgement.TheVariants.{Accepted}
-use Rattle.refutations.specs.Certifying.{IsCertificateBy}
-use Rattle.refutations.specs.Refuting.{Refutes}
+use Rattle.refutation_certificates.specs.Certificates.{IsCertificateBy}
+use Rattle.refutation_certificates.specs.Refutations.{Refutes}
 use Rattle.dispatch_net.specs.Dispatchable.{DispatchLists, IsDispatchBy}
 use Rattle.plan_session.specs.declared.answers.Report.{Report}
 use Rattle.dispatch_net.specs.OfClosure.{IsDispatchOfClosure}
-use Rattle.plan_session.specs.Sessions.{Opened, EndsWell, IsPlacedBy, IsSound, Opens, FollowsEdit}
+use Rattle.plan_session.specs.Sessions.{Opened, EndsWell, IsPlacedBy, IsSoundOpened, Opens, FollowsEdit}
 
 -- what an outcome says of a table is what its ending does
 pub says_well : (net : Plan) (support : Support) (outcome : Outcome) → OutcomeHolds net support outcome → EndsWell net support (ending_of outcome)
@@ -48,7 +48,7 @@ ends_placed net start after rounds ending (in_order support none closes) = refl
 ends_placed net start after rounds ending (after_one support later n how none some more) = ends_placed net (after_round net support) later n how more
 
 -- what was propagated is sound
-pub propagated_sound : (net : Plan) (before after : Support) (outcome : Outcome) → IsPropagated net before after outcome → IsSound net (record { support = after; ending = ending_of outcome })
+pub propagated_sound : (net : Plan) (before after : Support) (outcome : Outcome) → IsPropagated net before after outcome → IsSoundOpened net (record { support = after; ending = ending_of outcome })
 propagated_sound net before after outcome propagated = record {
   stands = propagated.stands;
   ends = says_well net after outcome propagated.says;
@@ -64,7 +64,7 @@ opens net start after outcome base propagated = record {
 }
 
 -- ---- the verdict
-module _ (net : Plan) (opened : Opened) (sound : IsSound net opened) where
+module _ (net : Plan) (opened : Opened) (sound : IsSoundOpened net opened) where
   -- rounds that closed gave the closure, with an order
   pub closed_well : (order : List PointId) → opened.ending ≡ closed order → IsClosure net opened.support.table × IsOrder opened.support.table order
   closed_well order is = subst (EndsWell net opened.support) is sound.ends
@@ -82,17 +82,17 @@ module _ (net : Plan) (opened : Opened) (sound : IsSound net opened) where
   looped_excludes exclude instant cycle is = exclude net opened.support cycle instant sound.stands (looped_well cycle is)
 
 -- ---- an accepted edit
--- what was propagated, as a session has it, and what is told of an edit
+-- what was propagated, as a session has it, and what is reported of an edit
 abbrev pub opened_by : Support → Outcome → Opened
 opened_by after outcome = record { support = after; ending = ending_of outcome }
 
-abbrev pub told_by : Withdrawn → Outcome → Report
-told_by answer outcome = record { kept = answer.kept; withdrawn = answer.withdrawn; rounds = rounds_of outcome }
+abbrev pub reported_by : Withdrawn → Outcome → Report
+reported_by answer outcome = record { kept = answer.kept; withdrawn = answer.withdrawn; rounds = rounds_of outcome }
 
-pub follows : LaterNodesFall → (old : Plan) (edit : Edit) (new : Plan) (before : Opened) (start after : Support) (outcome : Outcome) (answer : Withdrawn) → IsFollowed old edit new before.support start answer
+pub follows : LaterNodesImprove → (old : Plan) (edit : Edit) (new : Plan) (before : Opened) (start after : Support) (outcome : Outcome) (answer : Withdrawn) → IsFollowed old edit new before.support start answer
     → IsPropagated new start after outcome
-    → FollowsEdit old edit new before (opened_by after outcome) (told_by answer outcome)
-follows fall old edit new before start after outcome answer followed propagated = record {
+    → FollowsEdit old edit new before (opened_by after outcome) (reported_by answer outcome)
+follows improve old edit new before start after outcome answer followed propagated = record {
   start = start;
   answer = answer;
   followed = followed;
@@ -102,7 +102,7 @@ follows fall old edit new before start after outcome answer followed propagated 
   few = propagated.few;
   made = propagated.history.nodes;
   list = propagated.history.more;
-  falls = fall new start after followed.stands propagated.history;
+  improves = improve new start after followed.stands propagated.history;
   sound = propagated_sound new start after outcome propagated;
 }
 
@@ -112,9 +112,10 @@ module _ (withdraw : EditsWithdrawNodes) (follow : ShownFormsFollowEdits) (old :
   abbrev pub Follows : Opened → Opened → Report → Type 0
   Follows held opened report = (one : FollowsEdit (shown_form old) edit (shown_form new) held opened report) × AreWithdrawn (shown_form old) edit (shown_form new) held.support.nodes one.followed.places
 
-  pub shown_follows : (shown others : Plan) (held opened : Opened) (report : Report) → shown ≡ shown_form old → others ≡ shown_form new → IsSound shown held → FollowsEdit shown edit others held opened report → Follows held opened report
+  pub shown_follows : (shown others : Plan) (held opened : Opened) (report : Report) → shown ≡ shown_form old → others ≡ shown_form new → IsSoundOpened shown held → FollowsEdit shown edit others held opened report
+      → Follows held opened report
   shown_follows shown others held opened report is also sound followed =
-      let sound_there = subst (λ (n : Plan). IsSound n held) is sound in
+      let sound_there = subst (λ (n : Plan). IsSoundOpened n held) is sound in
       let from = subst (λ (n : Plan). FollowsEdit n edit others held opened report) is followed in
       let follows = subst (λ (n : Plan). FollowsEdit (shown_form old) edit n held opened report) also from in
       let kept = follows.followed in (
@@ -155,5 +156,5 @@ dispatches net table order (Err error) closure ordered by whole = tt
 
 -- ---- a session that is not broken
 -- what is opened of it is sound
-pub opened_sound : (net : Plan) (held : Option Opened) (opened : Opened) → held ≡ Some opened → IfSome held (IsSound net) → IsSound net opened
-opened_sound net held opened is sound = subst (λ (o : Option Opened). IfSome o (IsSound net)) is sound
+pub opened_sound : (net : Plan) (held : Option Opened) (opened : Opened) → held ≡ Some opened → IfSome held (IsSoundOpened net) → IsSoundOpened net opened
+opened_sound net held opened is sound = subst (λ (o : Option Opened). IfSome o (IsSoundOpened net)) is sound

@@ -10,7 +10,7 @@ use Rattle.plan_session.specs.declared.answers.SessionFault.TheVariants as fault
 use Rattle.plan_session.specs.declared.answers.AskFault.{AskFault}
 use Rattle.plan_session.specs.declared.answers.AskFault.TheVariants as ask_fault
 use Rattle.plan_session.specs.declared.answers.Verdict.{Verdict}
-use Rattle.plan_session.specs.declared.answers.Verdict.TheVariants as told
+use Rattle.plan_session.specs.declared.answers.Verdict.TheVariants as answered
 
 -- a session is opened in one way
 abbrev pub SessionsOpenInOneWay : Type 0
@@ -19,12 +19,14 @@ SessionsOpenInOneWay = (net : Plan) (one other : Opened) → Opens net one → O
 -- and it follows an edit in one way, with one report
 abbrev pub EditsAreFollowedInOneWay : Type 0
 EditsAreFollowedInOneWay =
-    (old : Plan) (edit : Edit) (new : Plan) (before one other : Opened) (report also : Report) → FollowsEdit old edit new before one report → FollowsEdit old edit new before other also → (one ≡ other) × (report ≡ also)
+    (old : Plan) (edit : Edit) (new : Plan) (before one other : Opened) (report also : Report) → FollowsEdit old edit new before one report
+    → FollowsEdit old edit new before other also → (one ≡ other) × (report ≡ also)
 
 -- a session says that it is broken to every edit, and stays as it is, and to whoever asks for its verdict or its certificate
 pub record SaysBroken (session : State) : Type 0 where
-  pub edits : (edit : Edit) (answer : Result Report SessionFault) (after : State) → AnswersEdit session edit answer after → (answer ≡ Err fault.Broken) × (after ≡ session)
-  pub verdict : (verdict : Verdict) → IsVerdictOf session verdict → verdict ≡ told.Broken
+  pub edits : (edit : Edit) (answer : Result Report SessionFault) (after : State) → AnswersEdit session edit answer after
+      → (answer ≡ Err fault.Broken) × (after ≡ session)
+  pub verdict : (verdict : Verdict) → IsVerdictOf session verdict → verdict ≡ answered.Broken
   pub proof : (answer : Result Certificate AskFault) → AnswersProof session answer → answer ≡ Err ask_fault.Broken
 
 abbrev pub BrokenSessionsSaySo : Type 0

@@ -1,6 +1,6 @@
 -- What an edit makes of a session that is not broken.
 use Rattle.std.specs.Prelude.{◌≡◌, ◌≢◌, Result, Ok, Err}
-use Rattle.net_model.specs.Editing.{edited}
+use Rattle.net_model.specs.EditedNetwork.{edited}
 use Rattle.net_model.specs.declared.edit.Edit.{Edit}
 use Rattle.net_model.specs.declared.edit.EditFault.{EditFault}
 use Rattle.net_model.specs.declared.edit.EditFault.TheVariants.{OutOfMemory}

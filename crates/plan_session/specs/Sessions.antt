@@ -2,7 +2,7 @@
 use Rattle.std.specs.Prelude.{◌≡◌, ◌≢◌, ℕ, suc, ◌≤◌, List, ◌++◌, length, Option, Some, None, IsSome, Result, Ok, Err}
 use Rattle.std.specs.declared.alloc.AllocError.{AllocError}
 use Rattle.net_model.specs.Network.{Plan, IsPlan, HasPlanNumbers}
-use Rattle.net_model.specs.Editing.{edited}
+use Rattle.net_model.specs.EditedNetwork.{edited}
 use Rattle.net_model.specs.ShownForm.{shown_form}
 use Rattle.net_model.specs.declared.edit.Edit.{Edit}
 use Rattle.net_model.specs.declared.edit.EditFault.TheVariants as edit_fault
@@ -13,12 +13,12 @@ use Rattle.closure_model.specs.Orders.{IsOrder, IsCycle, placed_points}
 use Rattle.closure_model.specs.ReferenceRounds.{Ending, closed, looped, RoundsEnd}
 use Rattle.closure_model.specs.Tables.{Graph}
 use Rattle.closure_model.specs.declared.derivation.Node.{Node}
-use Rattle.derivation_edits.specs.TakenAway.{AreWithdrawn}
-use Rattle.table_histories.specs.LaterNodes.{FallFrom}
-use Rattle.support_records.specs.Followed.{IsFollowed}
+use Rattle.edit_laws.specs.EditEffects.{AreWithdrawn}
+use Rattle.shared_table_laws.specs.LaterNodes.{ImproveFrom}
+use Rattle.support_records.specs.FollowedStores.{IsFollowed}
 use Rattle.support_records.specs.declared.store.Withdrawn.{Withdrawn}
 use Rattle.cert_format.specs.declared.certificate.Certificate.{Certificate}
-use Rattle.table_proofs.specs.Certified.{Certifies}
+use Rattle.closure_certificates.specs.Certified.{Certifies}
 use Rattle.plan_session.specs.declared.answers.Report.{Report}
 use Rattle.plan_session.specs.declared.answers.SessionFault.{SessionFault}
 use Rattle.plan_session.specs.declared.answers.SessionFault.TheVariants as fault
@@ -42,9 +42,11 @@ pub record SessionView : Type 0 where
   pub state : State
   pub workers : ℕ
 
+-- a session is open: something is opened
 abbrev pub IsOpen : State → Type 0
 IsOpen session = IsSome session.opened
 
+-- a session is broken: nothing is opened
 abbrev pub IsBroken : State → Type 0
 IsBroken session = session.opened ≡ None
 
@@ -54,13 +56,13 @@ abbrev pub EndsWell : Plan → Support → Ending → Type 0
 EndsWell net support (closed order) = IsClosure net support.table × IsOrder support.table order
 EndsWell net support (looped cycle) = IsCycle support.table cycle
 
--- where the rounds closed, the order is that in which the points of the table are placed
+-- if the rounds closed, the order is that in which the points of the table are placed
 abbrev pub IsPlacedBy : Graph → Ending → Type 0
 IsPlacedBy table (closed order) = order ≡ placed_points table
 IsPlacedBy table (looped cycle) = Unit {0}
 
 -- what is opened of a network stands on it, and its rounds ended well
-pub record IsSound (net : Plan) (opened : Opened) : Type 0 where
+pub record IsSoundOpened (net : Plan) (opened : Opened) : Type 0 where
   pub stands : StandsOn net opened.support
   pub ends : EndsWell net opened.support opened.ending
   pub placed : IsPlacedBy opened.support.table opened.ending
@@ -70,17 +72,17 @@ pub record IsSound (net : Plan) (opened : Opened) : Type 0 where
 pub record Opens (net : Plan) (opened : Opened) : Type 0 where
   pub rounds : ℕ
   pub ends : RoundsEnd net (base_support net) rounds opened.support opened.ending
-  pub sound : IsSound net opened
+  pub sound : IsSoundOpened net opened
 
 -- the session of a network, as it is opened: of its shown form
 abbrev pub IsOpenedOn : Plan → State → Type 0
 IsOpenedOn net session = (opened : Opened) × Opens (shown_form net) opened × (session ≡ record { net = net; opened = Some opened })
 
 -- ---- what an edit makes of a session
--- What an accepted edit makes of what is opened. `followed`: first the list follows the edit; exactly the nodes that rest on nothing taken
--- away are kept, in their order, and after them come the base nodes of what is new. `ends`: then the reference rounds are made from there,
--- at most one more than the points. `list`, `falls`: their nodes come after those, each below all earlier ones of its key. `kept`,
--- `withdrawn`: the report tells how many nodes were kept and withdrawn, and how many rounds were made.
+-- What an accepted edit makes of what is opened. `followed`: first the list follows the edit; exactly the nodes that rest on nothing taken away are kept, in
+-- their order, and after them come the base nodes of what is new. `ends`: then the reference rounds are made from there, at most one more than the points.
+-- `list`, `improves`: their nodes come after those, each below all earlier ones of its key. `kept`, `withdrawn`: the report says how many nodes were kept and
+-- withdrawn, and how many rounds were made.
 pub record FollowsEdit (old : Plan) (edit : Edit) (new : Plan) (before after : Opened) (report : Report) : Type 0 where
   pub start : Support
   pub answer : Withdrawn
@@ -91,8 +93,8 @@ pub record FollowsEdit (old : Plan) (edit : Edit) (new : Plan) (before after : O
   pub few : report.rounds ≤ suc (length new.points)
   pub made : List Node
   pub list : after.support.nodes ≡ start.nodes ++ made
-  pub falls : FallFrom after.support.nodes (record { 0 = length start.nodes })
-  pub sound : IsSound new after
+  pub improves : ImproveFrom after.support.nodes (record { 0 = length start.nodes })
+  pub sound : IsSoundOpened new after
 
 -- An edit of a session is accepted: the edit makes a network of its network, and what was opened follows the edit from the one shown form to
 -- the other. `withdrawn`: exactly the nodes that rest on a bound or a link that the edit takes away are not kept; it takes away what it drops
@@ -109,11 +111,12 @@ pub record Accepts (before : State) (edit : Edit) (report : Report) (after : Sta
   pub withdrawn : AreWithdrawn (shown_form before.net) edit (shown_form net) held.support.nodes follows.followed.places
   pub is : after ≡ record { net = net; opened = Some opened }
 
--- What `apply` answers, and what the session is then. It refuses the edit exactly where the session is not broken and the edit is refused,
--- and then nothing changes. After want of memory it keeps its old network and is broken. A broken session stays as it is.
+-- What `apply` answers, and what the session is then. It refuses the edit exactly if the session is not broken and the edit is refused, and then nothing
+-- changes. After want of memory it keeps its old network and is broken. A broken session stays as it is.
 abbrev pub AnswersEdit : State → Edit → Result Report SessionFault → State → Type 0
 AnswersEdit before edit (Ok report) after = Accepts before edit report after
-AnswersEdit before edit (Err (fault.Edit cause)) after = IsOpen before × (edited before.net edit ≡ Err cause) × (cause ≢ edit_fault.OutOfMemory) × (after ≡ before)
+AnswersEdit before edit (Err (fault.Edit cause)) after = IsOpen before × (edited before.net edit ≡ Err cause) × (cause ≢ edit_fault.OutOfMemory)
+    × (after ≡ before)
 AnswersEdit before edit (Err fault.OutOfMemory) after = IsOpen before × (after ≡ record { net = before.net; opened = None })
 AnswersEdit before edit (Err fault.Broken) after = IsBroken before × (after ≡ before)
 
@@ -123,7 +126,7 @@ abbrev pub AnswersReopening : State → Result (Unit {0}) AllocError → State �
 AnswersReopening before (Ok done) after = IsOpenedOn before.net after
 AnswersReopening before (Err error) after = after ≡ record { net = before.net; opened = None }
 
--- ---- what a session is asked
+-- ---- what a session answers
 -- the verdict: some strategy controls the network as it stands, or none does; or the session is broken
 abbrev pub IsVerdictOf : State → Verdict → Type 0
 IsVerdictOf session verdict.Controllable = IsOpen session × IsControllable session.net
@@ -142,4 +145,4 @@ pub record Lends (session : State) (support : Support) : Type 0 where
   pub opened : Opened
   pub is : session.opened ≡ Some opened
   pub support_is : support ≡ opened.support
-  pub sound : IsSound (shown_form session.net) opened
+  pub sound : IsSoundOpened (shown_form session.net) opened

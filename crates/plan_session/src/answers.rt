@@ -10,9 +10,10 @@ use std::fmt;
 pub struct Report {
     /// How many nodes of the derivation list were kept.
     pub kept: u64,
-    /// How many were withdrawn.
+    /// How many were withdrawn: all others.
     pub withdrawn: u64,
-    /// How many rounds were made then, the last one without a change included.
+    /// How many rounds were made then, the last one without a change included: at most one more
+    /// than the points.
     pub rounds: u64,
 }
 

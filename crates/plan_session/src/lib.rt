@@ -1,5 +1,6 @@
-//! A plan under edits: a session keeps the derivations of a network while it is edited, and tells whether the network as it stands is
-//! controllable, by a certificate or a dispatchable network of it.
+//! A plan under edits: a session keeps the derivations of a network while it is edited, and answers
+//! whether the network as it stands is controllable, by a certificate or a dispatchable network of
+//! it.
 #![tactic(auto)]
 
 mod answers;

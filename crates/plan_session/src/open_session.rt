@@ -3,7 +3,7 @@
 ghost use Rattle.std.specs.Prelude.{◌≡◌, ◌≤◌, true, false, IfOk};
 ghost use Rattle.net_model.specs.ShownForm.{shown_form};
 ghost use Rattle.strategy_model.specs.Control.{IsControllable};
-ghost use Rattle.table_proofs.specs.Certified.{Certifies};
+ghost use Rattle.closure_certificates.specs.Certified.{Certifies};
 ghost use Rattle.work_board.specs.Limits.{most_seats};
 ghost use Rattle.dispatch_net.specs.OfClosure.{IsDispatchOfClosure};
 ghost use Rattle.plan_session.specs.Sessions.{IsOpenedOn};
@@ -19,7 +19,8 @@ use std::alloc::{AllocError, Global};
 use std::marker::Model;
 use std::thread::Threads;
 
-/// A session that is not broken: want of memory ends it, so nobody who holds one has to ask. Contracts see it as the session.
+/// A session that is not broken: want of memory ends it, so whoever owns one has a session that
+/// answers. The commands use this one. Contracts see it as the session.
 #[derive(Debug, Drop)]
 pub struct OpenSession {
     session: Session,
@@ -39,7 +40,8 @@ impl Model for OpenSession {
 }
 
 impl OpenSession {
-    /// Opens a session of a network, as `Session::open`. `AllocError` comes only for want of memory.
+    /// Opens a session of a network, as `Session::open`. `AllocError` comes only for want of
+    /// memory.
     pub fn open<R: Threads + Sync, G: Gate>(
         rt: &R,
         alloc: Global,
@@ -55,8 +57,9 @@ impl OpenSession {
         Ok(OpenSession { session })
     }
 
-    /// Edits the network, as `Session::apply`, and gives the session back with what the edit came to, or why it is refused; then the session
-    /// is as it was. `AllocError` comes only for want of memory, and ends the session.
+    /// Edits the network, as `Session::apply`, and gives the session back with what the edit came
+    /// to, or why it is refused; then the session is as it was. `AllocError` comes only for want of
+    /// memory, and ends the session.
     pub fn apply<R: Threads + Sync, G: Gate>(
         self,
         rt: &R,
@@ -64,7 +67,8 @@ impl OpenSession {
         edit: &Edit,
         gate: &G,
     ) -> Result<(OpenSession, Result<Report, EditFault>), AllocError>
-        ensures answers { IfOk result (λ after. FollowsOrRefuses self.state edit.now after.1 after.0.state) }
+        ensures answers { IfOk result (λ after. FollowsOrRefuses self.state edit.now after.1
+            after.0.state) }
         ensures workers { IfOk result (λ after. after.0.workers ≡ self.workers) }
     {
         let OpenSession { mut session } = self;
@@ -88,7 +92,8 @@ impl OpenSession {
         }
     }
 
-    /// The certificate that decides the network as it stands, as `Session::certificate`. `AllocError` comes only for want of memory.
+    /// The certificate that decides the network as it stands, as `Session::certificate`.
+    /// `AllocError` comes only for want of memory.
     pub fn certificate<R: Threads + Sync>(
         &self,
         rt: &R,
@@ -103,8 +108,8 @@ impl OpenSession {
         }
     }
 
-    /// The dispatchable network of the closure of the shown form of the network as it stands, which is controllable. `AllocError` comes only
-    /// for want of memory.
+    /// The dispatchable network of the closure of the shown form of the network as it stands, which
+    /// is controllable. `AllocError` comes only for want of memory.
     pub fn dispatch(&self, alloc: Global) -> Result<Dispatch, AllocError>
         requires { IsControllable self.now.state.net }
         ensures { IfOk result (IsDispatchOfClosure (shown_form self.now.state.net)) }

@@ -1,30 +1,30 @@
-//! What is opened of a network: its derivations, propagated.
+//! What a session keeps of a network: its derivations, and how the rounds ended that made them.
 
 ghost use Rattle.std.specs.Prelude.{◌≡◌, ◌↔◌, ◌≤◌, IfOk, IsTrue};
 ghost use Rattle.strategy_model.specs.Control.{IsControllable};
-ghost use Rattle.refutations.specs.Refuting.{Refutes};
-ghost use Rattle.table_proofs.specs.Certified.{Proves};
+ghost use Rattle.refutation_certificates.specs.Refutations.{Refutes};
+ghost use Rattle.closure_certificates.specs.Certified.{Proves};
 ghost use Rattle.work_board.specs.Limits.{most_seats};
 ghost use Rattle.parallel_rounds.specs.Propagated.{rounds_of};
 ghost use Rattle.dispatch_net.specs.OfClosure.{IsDispatchOfClosure};
-ghost use Rattle.plan_session.specs.Sessions.{IsSound, Opens, FollowsEdit};
+ghost use Rattle.plan_session.specs.Sessions.{IsSoundOpened, Opens, FollowsEdit};
 
 use crate::answers::Report;
 use cert_format::Certificate;
-use controllability::laws::{ordered_closures_are_controllable, standing_cycles_exclude};
+use closure_certificates::laws::law_table_proofs_prove;
+use closure_certificates::table_proof;
+use closure_laws::laws::{law_ordered_closures_are_controllable, law_standing_cycles_exclude};
 use derivation_dag::Supports;
 use dispatch_net::Dispatch;
-use dispatch_net::laws::closures_may_dispatch;
+use dispatch_net::laws::law_closures_may_dispatch;
 use net_model::{Edit, Network};
 use parallel_rounds::{Gate, Outcome, propagate};
-use refutations::refutation;
+use refutation_certificates::refutation;
+use shared_table_laws::laws::law_later_nodes_improve;
 use std::alloc::{AllocError, Global};
 use std::marker::Model;
 use std::thread::Threads;
 use support_records::Store;
-use table_histories::laws::later_nodes_fall;
-use table_proofs::laws::table_proofs_prove;
-use table_proofs::table_proof;
 
 /// The derivations of a network, from which rounds were made, and how these ended.
 #[derive(Debug, Drop)]
@@ -42,7 +42,10 @@ impl Model for Propagated {
 
     ghost coded = { opened_code };
 
-    ghost view = { λ propagated. record { support = propagated.store; ending = ending_of propagated.outcome } };
+    ghost view = { λ propagated. record {
+      support = propagated.store;
+      ending = ending_of propagated.outcome;
+    } };
 }
 
 impl Propagated {
@@ -62,7 +65,8 @@ impl Propagated {
         Ok(Propagated { store, outcome })
     }
 
-    /// Follows an edit of the network, and makes rounds from there. After `AllocError` the caller drops it.
+    /// Follows an edit of the network, and makes rounds from there. After `AllocError` the caller
+    /// drops it.
     pub(crate) fn follow<R: Threads + Sync, G: Gate>(
         &mut self,
         rt: &R,
@@ -74,10 +78,10 @@ impl Propagated {
         gate: &G,
     ) -> Result<Report, AllocError>
         requires workers { (1 ≤ workers) × (workers ≤ most_seats) }
-        requires sound { IsSound old.now self.old }
+        requires sound { IsSoundOpened old.now self.old }
         ensures { IfOk result (FollowsEdit old.now edit.now new.now self.old self.new) }
     {
-        later_nodes_fall();
+        law_later_nodes_improve();
         let withdrawn = self.store.follow(alloc, old, edit, new)?;
         let outcome = propagate(rt, alloc, new, &mut self.store, workers, gate)?;
         let rounds = rounds_of(&outcome);
@@ -91,12 +95,12 @@ impl Propagated {
 
     /// Whether the network is controllable.
     pub(crate) fn is_controllable(&self, net: &Network) -> bool
-        requires sound { IsSound net.now self.now }
+        requires sound { IsSoundOpened net.now self.now }
         requires no_delay { net.now.delay ≡ 0 }
         ensures { IsTrue result ↔ IsControllable net.now }
     {
-        ordered_closures_are_controllable();
-        standing_cycles_exclude();
+        law_ordered_closures_are_controllable();
+        law_standing_cycles_exclude();
         net.sound();
         match self.outcome {
             Outcome::Closed { .. } => true,
@@ -110,13 +114,13 @@ impl Propagated {
         alloc: Global,
         net: &Network,
     ) -> Result<Certificate, AllocError>
-        requires sound { IsSound net.now self.now }
+        requires sound { IsSoundOpened net.now self.now }
         requires controllable { IsControllable net.now }
         requires no_delay { net.now.delay ≡ 0 }
         ensures { IfOk result (Proves net.now) }
     {
-        standing_cycles_exclude();
-        table_proofs_prove();
+        law_standing_cycles_exclude();
+        law_table_proofs_prove();
         net.sound();
         match &self.outcome {
             Outcome::Closed { order, .. } => {
@@ -127,14 +131,14 @@ impl Propagated {
         }
     }
 
-    /// The certificate of the refutation of the network, where the rounds were made from its base.
+    /// The certificate of the refutation of the network, if the rounds were made from its base.
     pub(crate) fn refutation(&self, alloc: Global, net: &Network) -> Result<Certificate, AllocError>
         requires opened { Opens net.now self.now }
         requires never { ¬ IsControllable net.now }
         requires no_delay { net.now.delay ≡ 0 }
         ensures { IfOk result (Refutes net.now) }
     {
-        ordered_closures_are_controllable();
+        law_ordered_closures_are_controllable();
         net.sound();
         match &self.outcome {
             Outcome::Closed { .. } => unreachable!(),
@@ -153,13 +157,13 @@ impl Propagated {
 
     /// The dispatchable network of the closure.
     pub(crate) fn dispatch(&self, alloc: Global, net: &Network) -> Result<Dispatch, AllocError>
-        requires sound { IsSound net.now self.now }
+        requires sound { IsSoundOpened net.now self.now }
         requires controllable { IsControllable net.now }
         requires no_delay { net.now.delay ≡ 0 }
         ensures { IfOk result (IsDispatchOfClosure net.now) }
     {
-        standing_cycles_exclude();
-        closures_may_dispatch();
+        law_standing_cycles_exclude();
+        law_closures_may_dispatch();
         net.sound();
         match &self.outcome {
             Outcome::Closed { order, .. } => {

@@ -1,33 +1,38 @@
+//! Sessions: a network under edits, with its shown form and the derivations of that.
+
 ghost use Rattle.std.specs.Prelude.{◌≡◌, ◌≤◌, Ok, IfOk};
-ghost use Rattle.net_model.specs.Editing.{edited};
+ghost use Rattle.net_model.specs.EditedNetwork.{edited};
 ghost use Rattle.net_model.specs.Network.{IsPlan, HasPlanNumbers};
 ghost use Rattle.net_model.specs.ShownForm.{shown_form};
 ghost use Rattle.strategy_model.specs.Control.{IsControllable};
 ghost use Rattle.cert_format.specs.declared.certificate.Certificate.{Certificate};
-ghost use Rattle.refutations.specs.Refuting.{Refutes};
-ghost use Rattle.table_proofs.specs.Certified.{Certifies, Proves};
+ghost use Rattle.refutation_certificates.specs.Refutations.{Refutes};
+ghost use Rattle.closure_certificates.specs.Certified.{Certifies, Proves};
 ghost use Rattle.work_board.specs.Limits.{most_seats};
 ghost use Rattle.dispatch_net.specs.OfClosure.{IsDispatchOfClosure};
-ghost use Rattle.plan_session.specs.Sessions.{IsOpen, IsOpenedOn, AnswersEdit, AnswersReopening, IsVerdictOf, AnswersProof, Lends};
+ghost use Rattle.plan_session.specs.Sessions.{IsOpen, IsOpenedOn, AnswersEdit, AnswersReopening};
+ghost use Rattle.plan_session.specs.Sessions.{IsVerdictOf, AnswersProof, Lends};
 
 use crate::answers::{AskFault, Report, SessionFault, Verdict};
 use crate::propagated::Propagated;
 use cert_format::Certificate;
-use derivation_edits::laws::{edits_withdraw_nodes, shown_forms_follow_edits};
+use closure_certificates::laws::law_certificates_are_one;
 use dispatch_net::Dispatch;
+use edit_laws::laws::{law_edits_withdraw_nodes, law_shown_forms_follow_edits};
 use net_model::{Edit, EditFault, Network};
 use parallel_rounds::{Gate, NoGate};
 use std::alloc::{AllocError, Global};
 use std::marker::Model;
 use std::mem;
 use std::thread::Threads;
-use strategy_model::laws::shown::controllable_is_shown;
+use strategy_model::laws::shown::law_controllable_is_shown;
 use support_records::Store;
-use table_proofs::laws::certificates_are_one;
 
-/// A plan under edits: the network as it stands, its shown form, and the derivations of that, of which an edit withdraws what rests on what
-/// it takes away. Contracts see it as the network, and the derivations with how the last rounds ended, unless the session is broken, and
-/// the number of workers, on which no answer depends.
+/// A plan under edits: the network as it stands, its shown form, and the derivations of that, of
+/// which an edit withdraws what rests on what it takes away. Contracts see it as the network, and
+/// the derivations with how the last rounds ended, unless the session is broken, and the number of
+/// workers, on which no answer depends. It is broken after want of memory in `apply` or `reopen`,
+/// until a `reopen` that succeeds.
 #[derive(Debug, Drop)]
 pub struct Session {
     net: Network,
@@ -36,26 +41,32 @@ pub struct Session {
     workers: u32,
     opened: Option<Propagated>,
     /// Whether no edit was accepted since the session was opened.
-    fresh: bool,
+    unedited: bool,
 }
 
 impl Model for Session {
     ghost use Rattle.plan_session.specs.Sessions.{SessionView};
     ghost use Rattle.plan_session.specs.Codes.{session_code};
-    ghost use Rattle.plan_session.specs.Kept.{IsKept};
+    ghost use Rattle.plan_session.specs.Kept.{IsKeptSession};
 
     ghost Value = { SessionView };
 
     ghost coded = { session_code };
 
-    ghost view = { λ session. record { state = record { net = session.net; opened = session.opened }; workers = session.workers } };
+    ghost view = { λ session. record {
+      state =
+          record { net = session.net; opened = session.opened };
+      workers = session.workers;
+    } };
 
-    ghost invariant = { λ session. IsKept session.net session.shown session.workers session.opened session.fresh };
+    ghost invariant = { λ session. IsKeptSession session.net session.shown session.workers
+        session.opened session.unedited };
 }
 
 impl Session {
-    /// Opens a session of a network: rounds are made from the base of its shown form by so many workers, 1 to 64; the gate is called before
-    /// each row. `AllocError` comes only for want of memory.
+    /// Opens a session of a network: rounds are made from the base of its shown form by so many
+    /// workers, 1 to 64; the gate is called before each row. `AllocError` comes only for want of
+    /// memory. `apply` and `reopen` keep the number of workers.
     pub fn open<R: Threads + Sync, G: Gate>(
         rt: &R,
         alloc: Global,
@@ -74,14 +85,17 @@ impl Session {
             shown,
             workers,
             opened: Some(opened),
-            fresh: true,
+            unedited: true,
         })
     }
 
-    /// Edits the network, which keeps its delay: the derivations that rest on nothing taken away of the shown form are kept, those of what is
-    /// new come after them, and rounds are made from there. `Edit` comes exactly where the session is not broken and the edit is refused, and
-    /// then nothing changes. `OutOfMemory` comes only for want of memory; then the session keeps its old network and is broken. `Broken` comes
-    /// exactly where the session is broken, and then nothing changes.
+    /// Edits the network, which keeps its delay: the derivations that rest on nothing taken away of
+    /// the shown form are kept, those of what is new come after them, and rounds are made from
+    /// there. Taken away is what the edit drops or sets, and what stands in the new shown form with
+    /// another number. If the network had the numbers that a plan may have, it has them afterwards.
+    /// `Edit` comes exactly if the session is not broken and the edit is refused, and then nothing
+    /// changes. `OutOfMemory` comes only for want of memory; then the session keeps its old network
+    /// and is broken. `Broken` comes exactly if the session is broken, and then nothing changes.
     pub fn apply<R: Threads + Sync, G: Gate>(
         &mut self,
         rt: &R,
@@ -128,7 +142,8 @@ impl Session {
         self.follow(rt, alloc, edit, new, &mut shown, gate)
     }
 
-    /// Takes the network that an edit makes and its shown form as its own, in exchange for the old ones, when the derivations have followed.
+    /// Takes the network that an edit makes and its shown form as its own, in exchange for the old
+    /// ones, when the derivations have followed.
     fn follow<R: Threads + Sync, G: Gate>(
         &mut self,
         rt: &R,
@@ -146,8 +161,8 @@ impl Session {
         ensures answers { AnswersEdit self.old.state edit.now result self.new.state }
         ensures workers { self.new.workers ≡ self.old.workers }
     {
-        edits_withdraw_nodes();
-        shown_forms_follow_edits();
+        law_edits_withdraw_nodes();
+        law_shown_forms_follow_edits();
         self.net.sound();
         let Some(opened) = &mut self.opened else {
             return Err(SessionFault::Broken);
@@ -156,7 +171,7 @@ impl Session {
             Ok(report) => {
                 mem::swap(&mut self.net, new);
                 mem::swap(&mut self.shown, shown);
-                self.fresh = false;
+                self.unedited = false;
                 Ok(report)
             }
             Err(AllocError) => {
@@ -166,8 +181,9 @@ impl Session {
         }
     }
 
-    /// Makes the session anew from its network, which keeps its delay: rounds are made from the base, as `open` makes them, and whatever was
-    /// opened is dropped first. A broken session is whole again. `AllocError` comes only for want of memory; then the session keeps its
+    /// Makes the session anew from its network, which keeps its delay: rounds are made from the
+    /// base, as `open` makes them, and whatever was opened is dropped first. A broken session
+    /// answers again. `AllocError` comes only for want of memory; then the session keeps its
     /// network and is broken.
     pub fn reopen<R: Threads + Sync, G: Gate>(
         &mut self,
@@ -181,15 +197,16 @@ impl Session {
         self.opened = None;
         let opened = Propagated::of(rt, alloc, &self.shown, self.workers, gate)?;
         self.opened = Some(opened);
-        self.fresh = true;
+        self.unedited = true;
         Ok(())
     }
 
-    /// Whether the network as it stands is controllable. `Broken` exactly where the session is broken.
+    /// Whether the network as it stands is controllable. `Broken` comes exactly if the session is
+    /// broken. It takes no memory.
     pub fn verdict(&self) -> Verdict
         ensures { IsVerdictOf self.now.state result }
     {
-        controllable_is_shown();
+        law_controllable_is_shown();
         self.net.sound();
         match &self.opened {
             None => Verdict::Broken,
@@ -203,19 +220,22 @@ impl Session {
         }
     }
 
-    /// The certificate that decides the network as it stands: the table proof of its shown form, where some strategy controls it, else that of
-    /// the refutation by the rounds from the base of that. It is a function of the network, whatever edits led to it, and the judge accepts
-    /// it. `Broken` comes exactly where the session is broken. `OutOfMemory` comes only for want of memory, and the session is as it was.
+    /// The certificate that decides the network as it stands: the table proof of its shown form, if
+    /// some strategy controls it, else that of the refutation by the rounds from the base of that.
+    /// It is a function of the network, whatever edits led to it, and the judge accepts it.
+    /// `Broken` comes exactly if the session is broken. `OutOfMemory` comes only for want of
+    /// memory, and the session is as it was.
     pub fn certificate<R: Threads + Sync>(
         &self,
         rt: &R,
         alloc: Global,
     ) -> Result<Certificate, AskFault>
         ensures answers { AnswersProof self.now.state result }
-        ensures one { (other : Certificate) → Certifies (shown_form self.now.state.net) other → IfOk result (λ cert. cert ≡ other) }
+        ensures one { (other : Certificate) → Certifies (shown_form self.now.state.net) other
+            → IfOk result (λ cert. cert ≡ other) }
     {
-        certificates_are_one();
-        controllable_is_shown();
+        law_certificates_are_one();
+        law_controllable_is_shown();
         self.net.sound();
         match self.verdict() {
             Verdict::Broken => Err(AskFault::Broken),
@@ -236,7 +256,8 @@ impl Session {
         }
     }
 
-    /// The refutation by the rounds from the base: those of the session, where no edit came after them, else new ones.
+    /// The refutation by the rounds from the base: those of the session, if no edit came after
+    /// them, else new ones.
     fn refutation<R: Threads + Sync>(
         &self,
         rt: &R,
@@ -246,7 +267,7 @@ impl Session {
         ensures { IfOk result (Refutes (shown_form self.now.state.net)) }
     {
         match &self.opened {
-            Some(opened) if self.fresh => opened.refutation(alloc, &self.shown),
+            Some(opened) if self.unedited => opened.refutation(alloc, &self.shown),
             _ => {
                 let opened = Propagated::of(rt, alloc, &self.shown, self.workers, &NoGate)?;
                 opened.refutation(alloc, &self.shown)
@@ -254,14 +275,14 @@ impl Session {
         }
     }
 
-    /// The dispatchable network of the closure of the shown form of the network as it stands, which is controllable. `AllocError` comes only
-    /// for want of memory.
+    /// The dispatchable network of the closure of the shown form of the network as it stands, which
+    /// is controllable. `AllocError` comes only for want of memory.
     pub fn dispatch(&self, alloc: Global) -> Result<Dispatch, AllocError>
         requires open { IsOpen self.now.state }
         requires controllable { IsControllable self.now.state.net }
         ensures { IfOk result (IsDispatchOfClosure (shown_form self.now.state.net)) }
     {
-        controllable_is_shown();
+        law_controllable_is_shown();
         self.net.sound();
         match &self.opened {
             None => unreachable!(),

@@ -15,25 +15,25 @@ use Rattle.strategy_model.specs.Control.{IsEarliest}
 use Rattle.strategy_model.specs.Laws.{AtMostOneEarliest}
 use Rattle.strategy_model.specs.Situations.{IsDuration, IsSituation, Satisfies, moment_in}
 use Rattle.strategy_model.proofs.ShownFormLemmas.{moment_in_shown, size_shown}
-use Rattle.execution_model.specs.Feeding.{Execution, started}
+use Rattle.execution_model.specs.Feeds.{Execution, started}
 use Rattle.dispatch_net.specs.Dispatchable.{DispatchLists}
 use Rattle.dispatch_net.specs.declared.dispatch.Conditions.{Conditions}
 use Rattle.dispatch_net.specs.OfClosure.{IsDispatchOfClosure}
-use Rattle.situation_player.specs.Playing.{IsStartedByClosure}
+use Rattle.situation_player.specs.PlayedDays.{IsStartedByClosure}
 use Rattle.strategy_model.specs.Plays.{IsInstant, points_of}
 use Rattle.command_engine.specs.Inputs.{AnswersText}
 use Rattle.command_engine.specs.declared.endings.End.{End}
 use Rattle.command_engine.specs.declared.endings.End.TheVariants.{Done}
 use Rattle.common_answers.specs.Faults.{refusing}
-use Rattle.plan_inputs.specs.PlanInput.{plan_in}
+use Rattle.input_texts.specs.PlanInput.{plan_in}
 use Rattle.play_command.specs.PlayPromise.{AreEarliestTimes, PlayPromise, PutsPlay}
-use Rattle.play_command.specs.Playing.{PutsTimes, happened_in, play_answers, time_line, times_text}
+use Rattle.play_command.specs.PlayCommand.{PutsTimes, happened_in, play_answers, time_line, times_text}
 use Rattle.common_answers.specs.VerdictLines.{controllable_line}
-use Rattle.play_command.specs.Which.{situation_of}
-use Rattle.play_command.specs.declared.playing.PlayWords.{PlayWords}
-use Rattle.play_command.specs.declared.which.Which.{Which}
+use Rattle.play_command.specs.PlayedSituation.{situation_of}
+use Rattle.play_command.specs.declared.plan_day.PlayWords.{PlayWords}
+use Rattle.play_command.specs.declared.which_situation.WhichSituation.{WhichSituation}
 use Rattle.execution_model.proofs.OfClosureLemmas.{by_closure}
-use Rattle.command_frame.proofs.DecidedLemmas.{after_line, yes_by, refutes_by}
+use Rattle.command_contracts.proofs.DecidedLemmas.{after_line, yes_by, refutes_by}
 use Rattle.verdicts.proofs.RefutationLemmas.{answers_once}
 
 -- ---- the promise
@@ -57,7 +57,7 @@ module _ (words : PlayWords) where
     is = ap after_line (sym same ∙ puts.is);
   }
 
-  -- where the verdict of the network of an input is put with the day, or the first refusal of the input, the promise is kept
+  -- if the verdict of the network of an input is put with the day, or the first refusal of the input, the promise is kept
   pub play_keeps : (input put : List ℕ) (end : End) → AnswersText (plan_in words.form) refusing (PutsPlay words) input put end → PlayPromise words input put end
   play_keeps input put end text =
       let yes = yes_by words.form (PutsTimes words.which) times_begin input put end text.answers in
@@ -70,7 +70,7 @@ module _ (words : PlayWords) where
 
 -- ---- one answer
 
-times_once : AtMostOneEarliest → (which : Which) (net : Plan) (a b : List ℕ) (x y : End) → PutsTimes which net a x → PutsTimes which net b y → (a ≡ b) × (x ≡ y)
+times_once : AtMostOneEarliest → (which : WhichSituation) (net : Plan) (a b : List ℕ) (x y : End) → PutsTimes which net a x → PutsTimes which net b y → (a ≡ b) × (x ≡ y)
 times_once one which net a b x y puts also =
     let same = one net (situation_of which net) puts.schedule also.schedule puts.earliest also.earliest in
     (puts.is ∙ (ap (λ (s : List ℕ). controllable_line ++ times_text net s) same ∙ sym also.is), puts.done ∙ sym also.done)
@@ -84,13 +84,13 @@ play_answers_once unique words net a b x y = answers_once net (PutsTimes words.w
 -- an execution that is started with a dispatchable network of the closure is so by the closure
 pub started_by : (net : Plan) (lists : DispatchLists) (made : List Conditions) (execution : Execution) → IsInstant net → IsDispatchOfClosure net lists → made ≡ lists.made
     → execution ≡ started (record { links = net.links; dispatch = made }) → IsStartedByClosure net execution
-started_by net lists made execution instant is same begun =
+started_by net lists made execution instant is same started_so =
     let from : List Conditions → Execution = λ d. started (record { links = net.links; dispatch = d }) in
     record {
       table = is.table;
       order = is.order;
       by_closure = by_closure net lists instant is;
-      fresh = begun ∙ ap from (same ∙ is.by.made);
+      unused = started_so ∙ ap from (same ∙ is.by.made);
     }
 
 -- ---- the lines of a day, by the schedule as it is shown
@@ -116,7 +116,7 @@ module _ (net : Plan) (schedule : List ℕ) (long : length schedule ≡ length n
   times_happened = λ i. flat_map (λ point. time_line net point (happened_at point i)) (points_of net)
 
 -- the earliest schedule as it is shown is put as the earliest schedule of the network
-pub times_put : EarliestIsShown → (which : Which) (net shown : Plan) (schedule put : List ℕ) → IsPlan net → shown ≡ shown_form net → IsSituation net (situation_of which net)
+pub times_put : EarliestIsShown → (which : WhichSituation) (net shown : Plan) (schedule put : List ℕ) → IsPlan net → shown ≡ shown_form net → IsSituation net (situation_of which net)
     → IsEarliest shown (shown_situation net (situation_of which net)) schedule
     → put ≡ controllable_line ++ flat_map (λ point. time_line net point (happened_in net schedule point)) (points_of net) → PutsTimes which net put Done
 times_put law which net shown schedule put plan as_shown is_situation earliest puts =

@@ -1,5 +1,5 @@
-pub mod Which
-pub mod Playing
+pub mod PlayedSituation
+pub mod PlayCommand
 pub mod PlayPromise
-pub mod Forging
+pub mod ForgeCommand
 pub mod Words

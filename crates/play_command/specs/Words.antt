@@ -4,17 +4,17 @@ use Rattle.std.specs.Fmt.{decimal}
 use Rattle.situation_player.specs.ForgedParts.{most_tasks}
 use Rattle.command_words.specs.Arguments.{operand_texts}
 use Rattle.command_words.specs.Syntax.{Syntax, Text}
-use Rattle.play_command.specs.Forging.{most_forge_number}
-use Rattle.command_frame.specs.PlanWords.{SayFormAndWorkers}
-use Rattle.command_frame.specs.Workers.{SayWithWorkers}
-use Rattle.play_command.specs.Which.{CanBeNamed, which_word}
-use Rattle.play_command.specs.declared.forging.ForgeWords.{ForgeWords}
-use Rattle.play_command.specs.declared.playing.PlayWords.{PlayWords}
+use Rattle.play_command.specs.ForgeCommand.{most_forge_number}
+use Rattle.command_contracts.specs.PlanWords.{SayFormAndWorkers}
+use Rattle.command_contracts.specs.WorkerCounts.{SayWithWorkers}
+use Rattle.play_command.specs.PlayedSituation.{CanBeNamed, situation_word}
+use Rattle.play_command.specs.declared.forged_network.ForgeWords.{ForgeWords}
+use Rattle.play_command.specs.declared.plan_day.PlayWords.{PlayWords}
 
 -- the words say uses of this command: the name of this situation, this form of the plan, and a number of workers or none
 pub record SayPlay (command : Syntax) (said : PlayWords) (words : List Text) : Type 0 where
   pub say : SayFormAndWorkers command said.form words
-  pub operands : operand_texts say.say.uses ≡ which_word said.which ∷ []
+  pub operands : operand_texts say.say.uses ≡ situation_word said.which ∷ []
   pub named : CanBeNamed said.which
 
 -- the words say uses of this command: this number, this count of tasks, and a number of workers or none

@@ -1,43 +1,62 @@
-//! The reductions of the labelled distance graph (Morris and Muscettola 2005, in this project's exact form), each from its
-//! premises to the one edge that follows. None takes memory. Weights are in whole moments, from -10^12 to 10^12 in premises.
+//! The reductions of the labelled distance graph (Morris and Muscettola 2005, in this project's
+//! exact form), each from its premises to the one edge that follows. None takes memory. Weights are
+//! in whole moments, from -10^12 to 10^12 in premises.
+//!
+//! Clause `exact` says what is given as a function of the premises, and `applies` when, in words of
+//! their labels, ends and signs.
 #![tactic(auto)]
 
-ghost use Rattle.std.specs.Prelude.{◌≡◌, ◌≤◌, ◌<◌, ◌&&◌, not, length, Some, None, MatchOption, IfSome, unsigned_abs};
+ghost use Rattle.std.specs.Prelude.{◌≡◌, ◌≤◌, ◌<◌, ◌&&◌, not, length, Some, None, MatchOption};
+ghost use Rattle.std.specs.Prelude.{IfSome, unsigned_abs};
 ghost use Rattle.std.specs.Option.{SomeIff};
 ghost use Rattle.net_model.specs.Network.{IsLink};
 ghost use Rattle.net_model.specs.Limits.{most_size, IsWeight};
 ghost use Rattle.net_model.specs.Edges.{IsLinkOf};
-ghost use Rattle.net_model.specs.Rules.{no_case, upper_case, lower_case, cross_case, removal, is_ordinary, is_labelled, is_labelled_by, meet, is_negative, goes_on_from, moved_to_activation};
-ghost use Rattle.reduction_rules.specs.Applies.{NoCaseApplies, UpperCaseApplies, LowerCaseApplies, CrossCaseApplies, joined, without_label};
+ghost use Rattle.net_model.specs.Rules.{no_case, upper_case, lower_case, cross_case, removal};
+ghost use Rattle.net_model.specs.Rules.{is_ordinary, is_labelled, is_labelled_by, meet};
+ghost use Rattle.net_model.specs.Rules.{is_negative, goes_on_from, moved_to_activation};
+ghost use Rattle.reduction_rules.specs.Applies.{NoCaseApplies, UpperCaseApplies, LowerCaseApplies};
+ghost use Rattle.reduction_rules.specs.Applies.{CrossCaseApplies, joined, without_label};
 
 use net_model::{Edge, Link, LinkId, Network};
 
-/// No-case: X to Y of v and Y to Z of u below 0, both without a label, give X to Z of max(v, 0) + u. `None` exactly where an
-/// edge has a label, they do not meet, or u is not below 0.
+/// No-case: X to Y of v and Y to Z of u below 0, both without a label, give X to Z of max(v, 0) +
+/// u. `None` exactly if an edge has a label, they are not consecutive, or u is not below 0.
 #[tactic(auto, unfolding(net_model::specs::Rules::no_case))]
 pub fn no_case(first: &Edge, second: &Edge) -> Option<Edge>
     requires first { IsWeight first.now.weight }
     requires second { IsWeight second.now.weight }
     ensures exact { result ≡ no_case first.now second.now }
-    ensures applies { SomeIff result (NoCaseApplies first.now second.now) (joined first.now second.now) }
+    ensures applies { SomeIff result (NoCaseApplies first.now second.now)
+        (joined first.now second.now) }
 {
-    if is_ordinary(first) && is_ordinary(second) && meets(first, second) && is_negative(second) {
+    if is_ordinary(first)
+        && is_ordinary(second)
+        && are_consecutive(first, second)
+        && is_negative(second)
+    {
         Some(joined(first, second))
     } else {
         None
     }
 }
 
-/// Upper-case: X to Y of v without a label and Y to A of u below 0, labelled B, give X to A of max(v, 0) + u, labelled B.
-/// `None` exactly where the first edge has a label or the second has none, they do not meet, or u is not below 0.
+/// Upper-case: X to Y of v without a label and Y to A of u below 0, labelled B, give X to A of
+/// max(v, 0) + u, labelled B. `None` exactly if the first edge has a label or the second has none,
+/// they are not consecutive, or u is not below 0.
 #[tactic(auto, unfolding(net_model::specs::Rules::upper_case))]
 pub fn upper_case(first: &Edge, second: &Edge) -> Option<Edge>
     requires first { IsWeight first.now.weight }
     requires second { IsWeight second.now.weight }
     ensures exact { result ≡ upper_case first.now second.now }
-    ensures applies { SomeIff result (UpperCaseApplies first.now second.now) (joined first.now second.now) }
+    ensures applies { SomeIff result (UpperCaseApplies first.now second.now)
+        (joined first.now second.now) }
 {
-    if is_ordinary(first) && is_labelled(second) && meets(first, second) && is_negative(second) {
+    if is_ordinary(first)
+        && is_labelled(second)
+        && are_consecutive(first, second)
+        && is_negative(second)
+    {
         Some(joined(first, second))
     } else {
         None
@@ -56,7 +75,7 @@ fn is_labelled(edge: &Edge) -> bool
     edge.label.is_some()
 }
 
-fn meets(first: &Edge, second: &Edge) -> bool
+fn are_consecutive(first: &Edge, second: &Edge) -> bool
     ensures { result ≡ meet first.now second.now }
 {
     first.to == second.from
@@ -68,7 +87,7 @@ fn is_negative(edge: &Edge) -> bool
     edge.weight < 0
 }
 
-/// The way over both edges, with the label of the second.
+/// The edge over both edges, with the label of the second.
 fn joined(first: &Edge, second: &Edge) -> Edge
     requires first { IsWeight first.now.weight }
     requires second { IsWeight second.now.weight }
@@ -82,14 +101,16 @@ fn joined(first: &Edge, second: &Edge) -> Edge
     }
 }
 
-/// Lower-case: a link from A to C of at least x, and C to Z of u below 0 without a label, give A to Z of x + u. `None` exactly
-/// where the edge has a label, does not begin in the link's contingent point, or is not below 0.
+/// Lower-case: a link from A to C of at least x, and C to Z of u below 0 without a label, give A to
+/// Z of x + u. `None` exactly if the edge has a label, does not begin in the link's contingent
+/// point, or is not below 0.
 #[tactic(auto, unfolding(net_model::specs::Rules::lower_case))]
 pub fn lower_case(net: &Network, link: LinkId, second: &Edge) -> Option<Edge>
     requires known { link.0 < length net.now.links }
     requires second { IsWeight second.now.weight }
     ensures exact { result ≡ lower_case net.now link second.now }
-    ensures applies { (l : Link) → IsLinkOf net.now link l → SomeIff result (LowerCaseApplies l second.now) (moved_to_activation l second.now) }
+    ensures applies { (l : Link) → IsLinkOf net.now link l
+        → SomeIff result (LowerCaseApplies l second.now) (moved_to_activation l second.now) }
 {
     let link = link_of(net, link);
     if is_ordinary(second) && goes_on_from(&link, second) {
@@ -99,15 +120,16 @@ pub fn lower_case(net: &Network, link: LinkId, second: &Edge) -> Option<Edge>
     }
 }
 
-/// Cross-case: a link from A to C of at least x, and C to D of u below 0, labelled by another link B, give A to D of x + u,
-/// labelled B. `None` exactly where the edge has no label or this link as its label, does not begin in the link's contingent
-/// point, or is not below 0.
+/// Cross-case: a link from A to C of at least x, and C to D of u below 0, labelled by another link
+/// B, give A to D of x + u, labelled B. `None` exactly if the edge has no label or this link as its
+/// label, does not begin in the link's contingent point, or is not below 0.
 #[tactic(auto, unfolding(net_model::specs::Rules::cross_case))]
 pub fn cross_case(net: &Network, link: LinkId, second: &Edge) -> Option<Edge>
     requires known { link.0 < length net.now.links }
     requires second { IsWeight second.now.weight }
     ensures exact { result ≡ cross_case net.now link second.now }
-    ensures applies { (l : Link) → IsLinkOf net.now link l → SomeIff result (CrossCaseApplies link l second.now) (moved_to_activation l second.now) }
+    ensures applies { (l : Link) → IsLinkOf net.now link l
+        → SomeIff result (CrossCaseApplies link l second.now) (moved_to_activation l second.now) }
 {
     let name = link;
     let link = link_of(net, name);
@@ -118,14 +140,15 @@ pub fn cross_case(net: &Network, link: LinkId, second: &Edge) -> Option<Edge>
     }
 }
 
-/// Removal: X to A of z, labelled by a link from A of at least x, gives X to A of max(z, -x) without the label. `None` exactly
-/// where the edge has no label.
+/// Removal: X to A of z, labelled by a link from A of at least x, gives X to A of max(z, -x)
+/// without the label. `None` exactly if the edge has no label.
 #[tactic(auto, unfolding(net_model::specs::Rules::removal))]
 pub fn removal(net: &Network, edge: &Edge) -> Option<Edge>
     requires known { IfSome edge.now.label (λ name. name.0 < length net.now.links) }
     requires weight { IsWeight edge.now.weight }
     ensures exact { result ≡ removal net.now edge.now }
-    ensures applies { MatchOption edge.now.label (result ≡ None) (λ name. (l : Link) → IsLinkOf net.now name l → result ≡ Some (without_label l edge.now)) }
+    ensures applies { MatchOption edge.now.label (result ≡ None) (λ name. (l : Link)
+        → IsLinkOf net.now name l → result ≡ Some (without_label l edge.now)) }
 {
     let name = edge.label?;
     let link = link_of(net, name);
@@ -155,8 +178,8 @@ fn goes_on_from(link: &Link, second: &Edge) -> bool
     second.from == link.to && second.weight < 0
 }
 
-/// What follows from an edge that goes on from a link: the edge from the link's activation point, longer by its shortest
-/// duration.
+/// What follows from an edge that goes on from a link: the edge from the link's activation point,
+/// longer by its shortest duration.
 fn moved_to_activation(link: &Link, second: &Edge) -> Edge
     requires link { unsigned_abs link.now.low ≤ most_size }
     requires second { IsWeight second.now.weight }

@@ -1,4 +1,4 @@
-pub mod Running
+pub mod RunCommand
 pub mod RunPromise
 pub mod Words
 pub mod OrderedTexts

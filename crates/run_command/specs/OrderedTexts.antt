@@ -5,32 +5,32 @@ use Rattle.net_model.specs.Network.{Plan}
 use Rattle.net_model.specs.ShownForm.{shown_form}
 use Rattle.net_model.specs.declared.ids.PointId.{PointId}
 use Rattle.desk_feeding.specs.Ordered.{IsInOrder}
-use Rattle.event_stream.specs.EventText.{completed, IsLine}
+use Rattle.event_stream.specs.EventText.{completed, IsEventLine}
 use Rattle.command_engine.specs.Inputs.{DeclaresBy}
-use Rattle.plan_inputs.specs.PlanInput.{plan_in}
-use Rattle.command_frame.specs.Programs.{Defines}
-use Rattle.command_frame.specs.declared.status.Status.{Status}
+use Rattle.input_texts.specs.PlanInput.{plan_in}
+use Rattle.command_contracts.specs.Programs.{Defines}
+use Rattle.command_contracts.specs.declared.status.Status.{Status}
 use Rattle.run_command.specs.RunPromise.{run_program}
-use Rattle.run_command.specs.Running.{with_feeders, without_feeders}
-use Rattle.plan_inputs.specs.declared.plan_input.PlanForm.{PlanForm}
+use Rattle.run_command.specs.RunCommand.{with_feeders, without_feeders}
+use Rattle.input_texts.specs.declared.plan_input.PlanForm.{PlanForm}
 
--- both lines tell completions at one moment, and the second the points of the first in the order of their numbers
-pub record TellsInOrder (net : Plan) (line ordered : List ℕ) : Type 0 where
+-- both lines state completions at one moment, and the second the points of the first in the order of their numbers
+pub record ReportsInOrder (net : Plan) (line ordered : List ℕ) : Type 0 where
   pub moment : ℕ
   pub named : List PointId
   pub points : List PointId
-  pub tells : IsLine net (completed moment named) line
+  pub statement : IsEventLine net (completed moment named) line
   pub order : IsInOrder named points
-  pub tells_so : IsLine net (completed moment points) ordered
+  pub states_so : IsEventLine net (completed moment points) ordered
 
--- the line names no points: it tells something else, or has a fault
-abbrev pub NamesNone : Plan → (line : List ℕ) → Type 0
-NamesNone net line = (moment : ℕ) (named : List PointId) → ¬ IsLine net (completed moment named) line
+-- the line names no points: it states something else, or has a fault
+abbrev pub NamesNoPoints : Plan → (line : List ℕ) → Type 0
+NamesNoPoints net line = (moment : ℕ) (named : List PointId) → ¬ IsEventLine net (completed moment named) line
 
 -- A line with its names in the order of the numbers, which has as many bytes, and its end where the other has it. A line that names no points
 -- stays as it is.
 pub record IsOrderedLine (net : Plan) (line ordered : InputLine) : Type 0 where
-  pub text : TellsInOrder net line.text ordered.text ⊎ (NamesNone net line.text × (ordered.text ≡ line.text))
+  pub text : ReportsInOrder net line.text ordered.text ⊎ (NamesNoPoints net line.text × (ordered.text ≡ line.text))
   pub size : length ordered.text ≡ length line.text
   pub end_stays : ordered.ended ≡ line.ended
 

@@ -3,9 +3,10 @@
 
 mod feeders;
 mod laws;
-mod running;
+mod plan_execution;
 
 pub use laws::{
-    feeders_decide_nothing, feeders_put_the_lines_in_order, run_is_lawful, run_is_read_exactly,
+    law_feeders_decide_nothing, law_feeders_put_the_lines_in_order, law_run_is_lawful,
+    law_run_is_read_exactly,
 };
-pub use running::Run;
+pub use plan_execution::Run;

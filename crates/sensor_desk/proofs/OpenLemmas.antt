@@ -19,7 +19,7 @@ use Rattle.net_model.specs.declared.ids.PointId.{PointId}
 use Rattle.net_model.specs.declared.part.Link.{Link}
 use Rattle.closure_model.proofs.Consequences.{ends_there}
 use Rattle.strategy_model.proofs.KindLemmas.{Ending, kind_of_any}
-use Rattle.sensor_desk.specs.Following.{open_link, is_open_in, open_among}
+use Rattle.sensor_desk.specs.Follower.{open_link, is_open_in, open_among}
 
 -- a point of this number
 abbrev pub point_at : ℕ → PointId

@@ -11,10 +11,10 @@ use prog.Atomic.{either}
 use Rattle.atomic_table.specs.Table.{State}
 use Rattle.atomic_table.proofs.Lists.{exchanged}
 use Rattle.net_model.specs.declared.ids.LinkId.{LinkId}
-use Rattle.sensor_desk.specs.DeskHistory.{Entries, DeskStep, DeskHistory, steps, moment_at, stands_after, told_by, stepped}
-use Rattle.sensor_desk.specs.DeskRule.{Stands, IsPast, IsKnown, OfLive, IsLed}
+use Rattle.sensor_desk.specs.DeskHistory.{Entries, DeskStep, DeskHistory, steps, moment_at, moment_standing_after, noted_by, stepped}
+use Rattle.sensor_desk.specs.DeskRule.{NoteStands, IsPastOfDesk, IsKnownOfDesk, OfLive, IsReachedBy}
 use Rattle.sensor_desk.specs.Views.{notes_of}
-use Rattle.sensor_desk.specs.Words.{word_of, held, words_of, place_of_word}
+use Rattle.sensor_desk.specs.Words.{moment_word, held, words_of_entries, place_of_word}
 use Rattle.sensor_desk.specs.declared.view.About.{About}
 use Rattle.sensor_desk.specs.declared.view.Note.{Note}
 use Rattle.sensor_desk.specs.declared.view.Standing.{Standing}
@@ -35,92 +35,92 @@ held_none word is = ap (λ (b : Bool). cond b None (Some (word - 1))) (eq-eqb wo
 pub held_some : (word : ℕ) → word ≢ 0 → held word ≡ Some (word - 1)
 held_some word other = ap (λ (b : Bool). cond b None (Some (word - 1))) (ne_eqb word 0 other)
 
-pub held_word : (stands : Option ℕ) → held (word_of stands) ≡ stands
+pub held_word : (stands : Option ℕ) → held (moment_word stands) ≡ stands
 held_word None = refl
 held_word (Some moment) = held_some (moment + 1) (λ e. omega arith) ∙ ap Some (omega arith)
 
-pub word_held : (word : ℕ) → word_of (held word) ≡ word
+pub word_held : (word : ℕ) → moment_word (held word) ≡ word
 word_held word = by (cases_eq word 0)
   where
     back : (n : ℕ) → n ≢ 0 → n - 1 + 1 ≡ n
     back zero other = absurd (other refl)
     back (suc n) other = omega arith
 
-    by : (word ≡ 0) ⊎ (word ≢ 0) → word_of (held word) ≡ word
-    by (inl is) = ap word_of (held_none word is) ∙ sym is
-    by (inr other) = ap word_of (held_some word other) ∙ back word other
+    by : (word ≡ 0) ⊎ (word ≢ 0) → moment_word (held word) ≡ word
+    by (inl is) = ap moment_word (held_none word is) ∙ sym is
+    by (inr other) = ap moment_word (held_some word other) ∙ back word other
 
 -- the word of a link
-pub word_at : (entries : Entries) (link : LinkId) → get_or (words_of entries) (place_of_word link) 0 ≡ word_of (moment_at entries link)
-word_at entries link = lists.get_or-map word_of entries link.0 None
+pub word_at : (entries : Entries) (link : LinkId) → get_or (words_of_entries entries) (place_of_word link) 0 ≡ moment_word (moment_at entries link)
+word_at entries link = lists.get_or-map moment_word entries link.0 None
 
-pub words_after : (entries : Entries) (step : DeskStep) (word : ℕ) → word ≡ word_of (told_by step) → set (words_of entries) (place_of_word step.link) word ≡ words_of (stepped entries step)
-words_after entries step word is = ap (λ (n : ℕ). 0 ∷ set (map word_of entries) step.link.0 n) is ∙ ap (λ (l : List ℕ). 0 ∷ l) (sym (map-set word_of entries step.link.0 (told_by step)))
+pub words_after : (entries : Entries) (step : DeskStep) (word : ℕ) → word ≡ moment_word (noted_by step) → set (words_of_entries entries) (place_of_word step.link) word ≡ words_of_entries (stepped entries step)
+words_after entries step word is = ap (λ (n : ℕ). 0 ∷ set (map moment_word entries) step.link.0 n) is ∙ ap (λ (l : List ℕ). 0 ∷ l) (sym (map-set moment_word entries step.link.0 (noted_by step)))
 
 -- the word after a post, and after a load
-pub word_posted : (word moment : ℕ) → either (eqb word 0) (moment + 1) word ≡ word_of (stands_after (held word) (Some moment))
+pub word_posted : (word moment : ℕ) → either (eqb word 0) (moment + 1) word ≡ moment_word (moment_standing_after (held word) (Some moment))
 word_posted word moment =
-    exchanged word 0 (moment + 1) (λ (n : ℕ). n ≡ word_of (stands_after (held word) (Some moment)))
-    (λ is. ap (λ (o : Option ℕ). word_of (stands_after o (Some moment))) (sym (held_none word is)))
-    (λ other. sym (word_held word) ∙ (ap word_of (held_some word other) ∙ ap (λ (o : Option ℕ). word_of (stands_after o (Some moment))) (sym (held_some word other))))
+    exchanged word 0 (moment + 1) (λ (n : ℕ). n ≡ moment_word (moment_standing_after (held word) (Some moment)))
+    (λ is. ap (λ (o : Option ℕ). moment_word (moment_standing_after o (Some moment))) (sym (held_none word is)))
+    (λ other. sym (word_held word) ∙ (ap moment_word (held_some word other) ∙ ap (λ (o : Option ℕ). moment_word (moment_standing_after o (Some moment))) (sym (held_some word other))))
 
-pub stands_still : (stands : Option ℕ) → stands_after stands None ≡ stands
+pub stands_still : (stands : Option ℕ) → moment_standing_after stands None ≡ stands
 stands_still None = refl
 stands_still (Some moment) = refl
 
 -- ---- a step at the word of a link
-module _ (about : About) (s : State (Unit {0}) Standing) (led : IsLed about s) (id : ℕ) (link : LinkId) (is : link.0 < length about.net.value.links) where
+module _ (about : About) (s : State (Unit {0}) Standing) (reached : IsReachedBy about s) (id : ℕ) (link : LinkId) (is : link.0 < length about.net.value.links) where
   abbrev pub found : ℕ
   found = get_or s.words (place_of_word link) 0
 
-  pub finds : held found ≡ moment_at led.entries link
-  finds = ap (λ (ws : List ℕ). held (get_or ws (place_of_word link) 0)) led.words ∙ (ap held (word_at led.entries link) ∙ held_word (moment_at led.entries link))
+  pub finds : held found ≡ moment_at reached.entries link
+  finds = ap (λ (ws : List ℕ). held (get_or ws (place_of_word link) 0)) reached.words ∙ (ap held (word_at reached.entries link) ∙ held_word (moment_at reached.entries link))
 
-  module _ (offered : Option ℕ) where
+  module _ (post_moment : Option ℕ) where
     abbrev pub step : DeskStep
-    step = record { seat = id; link = link; offered = offered; found = held found }
+    step = record { seat = id; link = link; post_moment = post_moment; found = held found }
 
-    within : link.0 < length led.entries
-    within = subst (λ (n : ℕ). link.0 < n) (sym (history_sized (length about.net.value.links) led.steps led.entries led.history)) is
+    within : link.0 < length reached.entries
+    within = subst (λ (n : ℕ). link.0 < n) (sym (history_sized (length about.net.value.links) reached.steps reached.entries reached.history)) is
 
-    note_on : (note : Note) → Stands led.entries note → Stands (stepped led.entries step) note
-    note_on note stands = stands_on led.entries step within finds note.link note.moment stands
+    note_on : (note : Note) → NoteStands reached.entries note → NoteStands (stepped reached.entries step) note
+    note_on note stands = stands_on reached.entries step within finds note.link note.moment stands
 
-    standing_on : (standing : Standing) → OfLive (IsKnown about led.entries) standing → OfLive (IsKnown about (stepped led.entries step)) standing
+    standing_on : (standing : Standing) → OfLive (IsKnownOfDesk about reached.entries) standing → OfLive (IsKnownOfDesk about (stepped reached.entries step)) standing
     standing_on (Live view) known = record { about_is = known.about_is; notes = λ k d lt. note_on (get_or view.notes k d) (known.notes k d lt) }
     standing_on Spent known = tt
 
     -- what stands for the link after the step, as a note
-    pub told_note : (stands : Option ℕ) → told_by step ≡ stands → All (Stands (stepped led.entries step)) (notes_of link stands)
-    told_note None is_none = All-nil (Stands (stepped led.entries step))
-    told_note (Some moment) is_some =
-        All-push (Stands (stepped led.entries step)) [] (record { link = link; moment = moment }) (All-nil (Stands (stepped led.entries step))) (here led.entries step within ∙ is_some)
+    pub noted_stands : (stands : Option ℕ) → noted_by step ≡ stands → All (NoteStands (stepped reached.entries step)) (notes_of link stands)
+    noted_stands None is_none = All-nil (NoteStands (stepped reached.entries step))
+    noted_stands (Some moment) is_some =
+        All-push (NoteStands (stepped reached.entries step)) [] (record { link = link; moment = moment }) (All-nil (NoteStands (stepped reached.entries step))) (here reached.entries step within ∙ is_some)
 
-    pub led_after : (word : ℕ) → word ≡ word_of (told_by step) → (standing : Standing) → OfLive (IsKnown about (stepped led.entries step)) standing
-        → IsLed about record { words = set s.words (place_of_word link) word; homes = s.homes; views = set s.views id standing }
-    led_after word told standing known = record {
-      steps = led.steps ++ step ∷ [];
-      entries = stepped led.entries step;
-      history = steps led.steps (led.steps ++ step ∷ []) led.entries (stepped led.entries step) step led.history is finds refl refl;
-      words = ap (λ (ws : List ℕ). set ws (place_of_word link) word) led.words ∙ words_after led.entries step word told;
-      seats = All-set (OfLive (IsKnown about (stepped led.entries step))) s.views id standing known (λ k d lt. standing_on (get_or s.views k d) (led.seats k d lt));
+    pub reached_after : (word : ℕ) → word ≡ moment_word (noted_by step) → (standing : Standing) → OfLive (IsKnownOfDesk about (stepped reached.entries step)) standing
+        → IsReachedBy about record { words = set s.words (place_of_word link) word; homes = s.homes; views = set s.views id standing }
+    reached_after word noted standing known = record {
+      steps = reached.steps ++ step ∷ [];
+      entries = stepped reached.entries step;
+      history = steps reached.steps (reached.steps ++ step ∷ []) reached.entries (stepped reached.entries step) step reached.history is finds refl refl;
+      words = ap (λ (ws : List ℕ). set ws (place_of_word link) word) reached.words ∙ words_after reached.entries step word noted;
+      seats = All-set (OfLive (IsKnownOfDesk about (stepped reached.entries step))) s.views id standing known (λ k d lt. standing_on (get_or s.views k d) (reached.seats k d lt));
     }
 
     -- what a live seat knows after the step, with notes that stand
     pub known_after : (view after : View) → get_elem? s.views id ≡ some (Live view) → after.about ≡ view.about → (notes : List Note) → after.notes ≡ view.notes ++ notes
-        → All (Stands (stepped led.entries step)) notes → IsKnown about (stepped led.entries step) after
+        → All (NoteStands (stepped reached.entries step)) notes → IsKnownOfDesk about (stepped reached.entries step) after
     known_after view after at same notes notes_are stand =
-        let known = all_at (OfLive (IsKnown about led.entries)) s.views id (Live view) at led.seats in
+        let known = all_at (OfLive (IsKnownOfDesk about reached.entries)) s.views id (Live view) at reached.seats in
         let before = standing_on (Live view) known in record {
           about_is = same ∙ known.about_is;
-          notes = subst (All (Stands (stepped led.entries step))) (sym notes_are) (All-append (Stands (stepped led.entries step)) view.notes notes before.notes stand);
+          notes = subst (All (NoteStands (stepped reached.entries step))) (sym notes_are) (All-append (NoteStands (stepped reached.entries step)) view.notes notes before.notes stand);
         }
 
 -- what a seat knows of the past
-pub past_of : (about : About) (s : State (Unit {0}) Standing) (led : IsLed about s) (id : ℕ) (view : View) → get_elem? s.views id ≡ some (Live view) → IsPast view led.entries
-past_of about s led id view at =
-    let known = all_at (OfLive (IsKnown about led.entries)) s.views id (Live view) at led.seats in record {
-      steps = led.steps;
-      history = subst (λ (a : About). DeskHistory (length a.net.value.links) led.steps led.entries) (sym known.about_is) led.history;
+pub past_of : (about : About) (s : State (Unit {0}) Standing) (reached : IsReachedBy about s) (id : ℕ) (view : View) → get_elem? s.views id ≡ some (Live view) → IsPastOfDesk view reached.entries
+past_of about s reached id view at =
+    let known = all_at (OfLive (IsKnownOfDesk about reached.entries)) s.views id (Live view) at reached.seats in record {
+      steps = reached.steps;
+      history = subst (λ (a : About). DeskHistory (length a.net.value.links) reached.steps reached.entries) (sym known.about_is) reached.history;
       notes = known.notes;
     }

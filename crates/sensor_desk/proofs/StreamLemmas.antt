@@ -19,21 +19,21 @@ use Rattle.strategy_model.specs.Plays.{points_of, same_point}
 use Rattle.strategy_model.specs.Situations.{moment_in}
 use Rattle.execution_model.specs.Streams.{Listing, Stream, IsListed, Shows}
 use Rattle.execution_model.proofs.PlaceLemmas.{ending_point}
-use Rattle.sensor_desk.specs.Closing.{posted_for, listing_at, end_of, stream_of}
+use Rattle.sensor_desk.specs.Comparison.{posted_for, listing_at, end_of, stream_of}
 use Rattle.sensor_desk.specs.DeskHistory.{Entries, moment_at}
-use Rattle.sensor_desk.specs.Following.{is_now}
-use Rattle.sensor_desk.specs.Words.{word_of}
+use Rattle.sensor_desk.specs.Follower.{is_now}
+use Rattle.sensor_desk.specs.Words.{moment_word}
 use Rattle.sensor_desk.proofs.OpenLemmas.{point_at, rise_all}
 
 -- ---- the end of what stands
 abbrev most_of : ℕ → Option ℕ → ℕ
-most_of most found = max most (word_of found)
+most_of most found = max most (moment_word found)
 
 start_within : (entries : Entries) (start : ℕ) → start ≤ fold most_of start entries
 start_within [] start = omega arith
 start_within (found ∷ others) start = let later = start_within others (most_of start found) in omega (arith, later)
 
-each_within : (entries : Entries) (start k : ℕ) → k < length entries → word_of (get_or entries k None) ≤ fold most_of start entries
+each_within : (entries : Entries) (start k : ℕ) → k < length entries → moment_word (get_or entries k None) ≤ fold most_of start entries
 each_within [] start k less = absurd (omega arith)
 each_within (found ∷ others) start zero less = let later = start_within others (most_of start found) in omega (arith, later)
 each_within (found ∷ others) start (suc k) less = each_within others (most_of start found) k (omega arith)
@@ -47,7 +47,7 @@ stands_within : (entries : Entries) (link : LinkId) (moment : ℕ) → moment_at
 stands_within entries link moment is = by (Rattle.std.proofs.lemmas.Bool.cases_lt link.0 (length entries))
   where
     by : (link.0 < length entries) ⊎ (length entries ≤ link.0) → moment < end_of entries
-    by (inl inside) = let each = each_within entries 0 link.0 inside in let word : word_of (moment_at entries link) ≡ moment + 1 = ap word_of is in omega (arith, each, word)
+    by (inl inside) = let each = each_within entries 0 link.0 inside in let word : moment_word (moment_at entries link) ≡ moment + 1 = ap moment_word is in omega (arith, each, word)
     by (inr past) = absurd (none-some moment (sym (past_end entries link.0 past) ∙ is))
 
 is_now_true : (moment : ℕ) (found : Option ℕ) → is_now moment found ≡ true → found ≡ Some moment
@@ -111,7 +111,12 @@ module _ (net : Plan) (plan : IsPlan net) (entries : Entries) (schedule : List �
       let ending = contingent_ends point contingent in
       let moment : ℕ = moment_in schedule point in
       let inside = stands_within entries ending.name moment (are point ending) in
-      let in_range : Contains (range_with_len 0 (end_of entries)) moment = (moment, subst (λ (n : ℕ). moment < n) (sym (length-range_with_len 0 (end_of entries))) inside, get_or-range_with_len 0 (end_of entries) moment moment inside ∙ none_more moment) in
+      let in_range : Contains (range_with_len 0 (end_of entries)) moment = (
+        moment,
+        subst (λ (n : ℕ). moment < n) (sym (length-range_with_len 0 (end_of entries))) inside,
+        get_or-range_with_len 0 (end_of entries) moment moment inside
+            ∙ none_more moment,
+      ) in
       let point_inside : point.0 < length net.points = ending_point net plan point ending in
       let in_points : Contains (points_of net) point =
       (point.0, subst (λ (n : ℕ). point.0 < n) (sym (length-map-range_with_len point_at 0 (length net.points))) point_inside, get_or-map-range_with_len point_at 0 (length net.points) point.0 point.0 point point_inside (omega arith)) in

@@ -1,12 +1,12 @@
--- A desk and a seat at it, as callers see them, and what a post, a read and a look tell. This project's own choice.
+-- A desk and a seat at it, as callers see them, and the answers to a post, a read and a look. This project's own choice.
 use Rattle.std.specs.Prelude.{◌≡◌, ℕ, ◌<◌, length, Option, Some, None}
 use Rattle.atomic_table.specs.Seated.{TableId}
 use Rattle.net_model.specs.declared.ids.LinkId.{LinkId}
-use Rattle.sensor_desk.specs.Steps.{IsFound}
+use Rattle.sensor_desk.specs.Steps.{IsFoundMoment}
 use Rattle.sensor_desk.specs.Views.{posted, read, looked}
 use Rattle.sensor_desk.specs.Words.{held}
-use Rattle.sensor_desk.specs.declared.posted.Posted.{Posted}
-use Rattle.sensor_desk.specs.declared.posted.Posted.TheVariants.{First, Before}
+use Rattle.sensor_desk.specs.declared.post_result.Posted.{Posted}
+use Rattle.sensor_desk.specs.declared.post_result.Posted.TheVariants.{First, Before}
 use Rattle.sensor_desk.specs.declared.view.About.{About}
 use Rattle.sensor_desk.specs.declared.view.View.{View}
 
@@ -16,12 +16,12 @@ pub record DeskSeen : Type 0 where
   pub about : About
 
 -- the desk to which a seat belongs, and what the seat knows
-pub record SeatSeen : Type 0 where
+pub record DeskSeatSeen : Type 0 where
   pub desk : TableId
   pub view : View
 
 -- a seat comes from a desk
-pub record IsSeatOf (desk : DeskSeen) (seat : SeatSeen) : Type 0 where
+pub record IsSeatOfDesk (desk : DeskSeen) (seat : DeskSeatSeen) : Type 0 where
   pub desk_is : seat.desk ≡ desk.id
   pub about_is : seat.view.about ≡ desk.about
 
@@ -34,23 +34,23 @@ abbrev pub posted_answer : Option ℕ → Posted
 posted_answer None = First
 posted_answer (Some moment) = Before moment
 
--- a step of a seat at a link: its answer, and what the seat knows afterwards, go by the word that it found
-pub record Steps {X : Type 0} (answer_of : ℕ → X) (view_after : View → LinkId → ℕ → View) (before after : SeatSeen) (link : LinkId)
+-- a step of a seat at a link: its answer, and what the seat knows afterwards, follow from the word that it found
+pub record Steps {X : Type 0} (answer_of : ℕ → X) (view_after : View → LinkId → ℕ → View) (before after : DeskSeatSeen) (link : LinkId)
     (result : X) : Type 0 where
   pub word : ℕ
-  pub found : IsFound before.view link word
+  pub found : IsFoundMoment before.view link word
   pub given : result ≡ answer_of word
   pub after_is : after ≡ record { desk = before.desk; view = view_after before.view link word }
 
--- a seat posted a moment for a link: it was the first exactly where nothing stood
-abbrev pub Posts : SeatSeen → SeatSeen → LinkId → (moment : ℕ) → Posted → Type 0
+-- a seat posted a moment for a link: it was the first exactly if nothing stood
+abbrev pub Posts : DeskSeatSeen → DeskSeatSeen → LinkId → (moment : ℕ) → Posted → Type 0
 Posts before after link moment result =
     Steps (λ word. posted_answer (held word)) (λ view at word. posted view at word moment) before after link result
 
 -- a seat read what stands for a link
-abbrev pub Reads : SeatSeen → SeatSeen → LinkId → Option ℕ → Type 0
-Reads before after link result = Steps held read before after link result
+abbrev pub ReadsLink : DeskSeatSeen → DeskSeatSeen → LinkId → Option ℕ → Type 0
+ReadsLink before after link result = Steps held read before after link result
 
 -- a seat looked at what stands for a link, and noted nothing
-abbrev pub Looks : SeatSeen → SeatSeen → LinkId → Option ℕ → Type 0
+abbrev pub Looks : DeskSeatSeen → DeskSeatSeen → LinkId → Option ℕ → Type 0
 Looks before after link result = Steps held looked before after link result

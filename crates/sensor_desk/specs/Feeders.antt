@@ -1,11 +1,11 @@
--- What several feeders come to that post one moment at once, each for its share of the links. This project's own choice.
+-- The result of several feeders that post one moment concurrently, each for its share of the links. This project's own choice.
 use Rattle.std.specs.Prelude.{◌≡◌, ℕ, suc, ◌+◌, ◌*◌, ◌<◌, ◌≤◌, List, length, Option, Some, None, slice_get}
 use Rattle.std.specs.List.{slice_index_or}
 use Rattle.net_model.specs.declared.ids.LinkId.{LinkId}
 use Rattle.sensor_desk.specs.Desks.{Posts}
 use Rattle.sensor_desk.specs.declared.feeder.Feeder.{Feeder}
-use Rattle.sensor_desk.specs.declared.posted.Posted.{Posted}
-use Rattle.sensor_desk.specs.declared.posted.Posted.TheVariants.{First, Before}
+use Rattle.sensor_desk.specs.declared.post_result.Posted.{Posted}
+use Rattle.sensor_desk.specs.declared.post_result.Posted.TheVariants.{First, Before}
 
 -- the first place at which a moment stood before, after the answer at one place more
 abbrev pub met_after : Option ℕ → (place : ℕ) → Posted → Option ℕ
@@ -28,7 +28,7 @@ pub data HavePosted (links : List LinkId) (moment first step : ℕ) (before : Fe
       → IsPostedAt links moment (first + count * step) between after → HavePosted links moment first step before (suc count) after
 
 -- a feeder posted at all its places among the links
-pub record IsFedBy (links : List LinkId) (moment first step : ℕ) (before after : Feeder) : Type 0 where
+pub record HasPostedAll (links : List LinkId) (moment first step : ℕ) (before after : Feeder) : Type 0 where
   pub count : ℕ
   pub places : HavePosted links moment first step before count after
   pub all : length links ≤ first + count * step
@@ -37,7 +37,7 @@ pub record IsFedBy (links : List LinkId) (moment first step : ℕ) (before after
 abbrev pub AreFedBy : List LinkId → (moment : ℕ) → List Feeder → List Feeder → Type 0
 AreFedBy links moment before after =
     (number : ℕ) (feeder : Feeder) → number < length before
-    → IsFedBy links moment number (length before) (slice_index_or before number feeder) (slice_index_or after number feeder)
+    → HasPostedAll links moment number (length before) (slice_index_or before number feeder) (slice_index_or after number feeder)
 
 -- a feeder that is not done yet: it posted at all its places below one
 pub record IsInTurn (links : List LinkId) (moment first step : ℕ) (before : Feeder) (place : ℕ) (now : Feeder) : Type 0 where

@@ -7,5 +7,5 @@ pub mod Steps
 pub mod Desks
 pub mod Seats
 pub mod Feeders
-pub mod Following
-pub mod Closing
+pub mod Follower
+pub mod Comparison

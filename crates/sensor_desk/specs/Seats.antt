@@ -1,9 +1,9 @@
--- What callers see of a seat and of a desk, and as data.
+-- What callers see of a seat and of a desk, as data.
 use Rattle.std.specs.Prelude.{◌≡◌, ℕ, ◌+◌, length, [], refl}
 use Rattle.std.specs.Coded.{Coded, code_by, coded×}
 use Rattle.atomic_table.specs.Seated.{TableId, table_id_coded}
 use Rattle.atomic_table.specs.declared.shared.Seat.{Seat as Place}
-use Rattle.sensor_desk.specs.Desks.{DeskSeen, SeatSeen}
+use Rattle.sensor_desk.specs.Desks.{DeskSeen, DeskSeatSeen}
 use Rattle.sensor_desk.specs.Views.{bare_view}
 use Rattle.sensor_desk.specs.contracts.view.About as about
 use Rattle.sensor_desk.specs.contracts.view.View as view
@@ -13,10 +13,12 @@ use Rattle.sensor_desk.specs.declared.view.Standing.TheVariants.{Live, Spent}
 use Rattle.sensor_desk.specs.declared.view.View.{View}
 
 abbrev pub desk_code : Coded DeskSeen
-desk_code = code_by (TableId × About) (coded× table_id_coded about.the_row.coded) (λ desk. (desk.id, desk.about)) (λ parts. record { id = parts.0; about = parts.1 }) (λ _. refl)
+desk_code = code_by (TableId × About) (coded× table_id_coded about.the_row.coded) (λ desk. (desk.id, desk.about))
+    (λ parts. record { id = parts.0; about = parts.1 }) (λ _. refl)
 
-abbrev pub seat_code : Coded SeatSeen
-seat_code = code_by (TableId × View) (coded× table_id_coded view.the_row.coded) (λ seat. (seat.desk, seat.view)) (λ parts. record { desk = parts.0; view = parts.1 }) (λ _. refl)
+abbrev pub seat_code : Coded DeskSeatSeen
+seat_code = code_by (TableId × View) (coded× table_id_coded view.the_row.coded) (λ seat. (seat.desk, seat.view))
+    (λ parts. record { desk = parts.0; view = parts.1 }) (λ _. refl)
 
 -- what a seat with no live standing would know
 abbrev pub nothing : View
@@ -28,7 +30,7 @@ view_of (Live view) = view
 view_of Spent = nothing
 
 -- what callers see of a seat of the table
-abbrev pub seen_at : Place (Unit {0}) Standing → SeatSeen
+abbrev pub seen_at : Place (Unit {0}) Standing → DeskSeatSeen
 seen_at place = record { desk = place.table_id; view = view_of place.me.0 }
 
 -- the table has a word more than the network has links
@@ -36,7 +38,7 @@ pub record IsDesk (id : TableId) (about : About) : Type 0 where
   pub words : id.words ≡ length about.net.value.links + 1
   pub slots : id.slots ≡ 0
 
--- a seat is live and holds no slot, and its count is the one that it knows
-pub record IsSeated (place : Place (Unit {0}) Standing) (to_split : ℕ) : Type 0 where
+-- a seat is live and owns no slot, and its count is the one that it knows
+pub record IsSeatedAtDesk (place : Place (Unit {0}) Standing) (to_split : ℕ) : Type 0 where
   pub live : place.me ≡ (Live (view_of place.me.0), [])
   pub to_split_is : to_split ≡ (view_of place.me.0).to_split

@@ -1,13 +1,13 @@
 -- What the steps of a desk make of what its seats know. This project's own choice.
 use Rattle.std.specs.Prelude.{ℕ, ◌-◌, List, [], ◌∷◌, ◌++◌, Option, Some, None}
 use Rattle.net_model.specs.declared.ids.LinkId.{LinkId}
-use Rattle.sensor_desk.specs.DeskHistory.{stands_after}
+use Rattle.sensor_desk.specs.DeskHistory.{moment_standing_after}
 use Rattle.sensor_desk.specs.Words.{held}
 use Rattle.sensor_desk.specs.declared.view.About.{About}
 use Rattle.sensor_desk.specs.declared.view.Note.{Note}
 use Rattle.sensor_desk.specs.declared.view.View.{View}
 
--- a seat that was told nothing and found nothing
+-- a seat that has noted nothing and found nothing
 abbrev pub bare_view : About → ℕ → View
 bare_view about to_split = record { about = about; notes = []; looks = []; to_split = to_split }
 
@@ -15,14 +15,15 @@ bare_view about to_split = record { about = about; notes = []; looks = []; to_sp
 abbrev pub first_view : About → View
 first_view about = bare_view about (about.seats - 1)
 
--- a seat after another was split from it, and the other
+-- a seat after another was split from it
 abbrev pub split_from : View → View
 split_from view = record view { to_split = view.to_split - 1 }
 
+-- the seat that was split from another: it has noted nothing and found nothing
 abbrev pub split_off : View → View
 split_off view = bare_view view.about 0
 
--- the note of a link, where a moment stands for it
+-- the note of a link, if a moment stands for it
 abbrev pub notes_of : LinkId → Option ℕ → List Note
 notes_of link None = []
 notes_of link (Some moment) = record { link = link; moment = moment } ∷ []
@@ -31,16 +32,17 @@ notes_of link (Some moment) = record { link = link; moment = moment } ∷ []
 abbrev pub looked : View → LinkId → ℕ → View
 looked view link word = record view { looks = view.looks ++ record { link = link; word = word } ∷ [] }
 
--- a seat after a step at which it found a word of a link and was told what stands for it
-abbrev pub told : View → LinkId → ℕ → Option ℕ → View
-told view link word stands = record (looked view link word) { notes = view.notes ++ notes_of link stands }
+-- a seat after a step at which it found a word of a link and noted what stands for it
+abbrev pub noted : View → LinkId → ℕ → Option ℕ → View
+noted view link word stands = record (looked view link word) { notes = view.notes ++ notes_of link stands }
 
--- a seat after a post of a moment, and after a read
+-- a seat after a post of a moment for a link, when the link had this word
 abbrev pub posted : View → LinkId → ℕ → ℕ → View
-posted view link word moment = told view link word (stands_after (held word) (Some moment))
+posted view link word moment = noted view link word (moment_standing_after (held word) (Some moment))
 
+-- a seat after a read of a link that had this word
 abbrev pub read : View → LinkId → ℕ → View
-read view link word = told view link word (held word)
+read view link word = noted view link word (held word)
 
 -- a seat after another was joined into it
 abbrev pub joined_with : View → View → View

@@ -1,12 +1,14 @@
+//! The desk: its seats, and posts and reads of the moments of links.
+
 ghost use Rattle.std.specs.Prelude.{◌≡◌, ◌<◌, ◌≤◌, ◌^◌, ◌+◌, length, IfOk};
 ghost use Rattle.std.specs.Mem.Slots.{slots_items, slots_len, IsFull};
 ghost use Rattle.sensor_desk.specs.DeskRule.{IsLeft};
-ghost use Rattle.sensor_desk.specs.Limits.{most_seats};
-ghost use Rattle.sensor_desk.specs.Desks.{IsSeatOf, HasLink, Posts, Reads, Looks};
+ghost use Rattle.sensor_desk.specs.Limits.{most_desk_seats};
+ghost use Rattle.sensor_desk.specs.Desks.{IsSeatOfDesk, HasLink, Posts, ReadsLink, Looks};
 ghost use Rattle.sensor_desk.specs.Views.{first_view, split_from, split_off, joined_with};
 ghost use Rattle.sensor_desk.specs.Words.{held};
 
-use crate::posted::Posted;
+use crate::post_result::Posted;
 use crate::rule::{Histories, Joining, Looking, Posting, Reading, Splitting};
 use crate::seat::DeskSeat;
 use crate::view::{About, Standing};
@@ -16,8 +18,9 @@ use std::alloc::{AllocError, Global};
 use std::marker::Model;
 use std::snapshot::Snapshot;
 
-/// A desk at which feeders post the moments at which links were over. For each link the first post stands, and no later one changes it. A
-/// desk is shared by reference; whoever steps at it holds a seat of it.
+/// A desk at which feeders post the moments at which links were over. For each link the first post
+/// stands, and no later one changes it. A desk is shared by reference; whoever posts or reads owns
+/// a seat of it.
 #[derive(Drop)]
 pub struct Desk {
     table: Table<(), Standing, About, Histories, Global>,
@@ -31,19 +34,27 @@ impl Model for Desk {
 
     ghost coded = { desk_code };
 
-    ghost view = { λ desk. record { id = desk.table.shared.table_id; about = desk.table.shared.key } };
+    ghost view = { λ desk. record {
+      id = desk.table.shared.table_id;
+      about = desk.table.shared.key;
+    } };
 
     ghost invariant = { λ desk. IsDesk desk.table.shared.table_id desk.table.shared.key };
 }
 
 impl Desk {
-    /// The desk of a network, at which nothing is posted, and the first of its seats, from which all others are split. There are 1 to 65
-    /// seats. Where a network has a delay, the desk is that of its shown form. `AllocError` comes only for want of memory; then nothing was
-    /// made. No other call of a desk takes memory.
+    /// The desk of a network, at which nothing is posted, and the first of its seats, from which
+    /// all others are split. There are 1 to 65 seats. If a network has a delay, the desk is that of
+    /// its shown form. `AllocError` comes only if memory is refused; then nothing was made. No
+    /// other call of a desk takes memory.
     pub fn new(alloc: Global, net: &Network, seats: u32) -> Result<(Desk, DeskSeat), AllocError>
-        requires seats { (1 ≤ seats) × (seats ≤ most_seats) }
-        ensures about { IfOk result (λ made. (made.0.about.net.value ≡ net.now) × (made.0.about.seats ≡ seats)) }
-        ensures seat { IfOk result (λ made. made.1 ≡ record { desk = made.0.id; view = first_view made.0.about }) }
+        requires seats { (1 ≤ seats) × (seats ≤ most_desk_seats) }
+        ensures about { IfOk result (λ made. (made.0.about.net.value ≡ net.now)
+            × (made.0.about.seats ≡ seats)) }
+        ensures seat { IfOk result (λ made. made.1 ≡ record {
+          desk = made.0.id;
+          view = first_view made.0.about;
+        }) }
     {
         let words = vec![in alloc; 0; net.links().len() + 1]?;
         let about = About {
@@ -60,24 +71,28 @@ impl Desk {
         ))
     }
 
-    /// Splits a seat from one that may split. The new seat was told nothing, and may not split.
+    /// Splits a seat from one that may split. The new seat has noted nothing, and may not split.
     pub fn split(&self, seat: &mut DeskSeat) -> DeskSeat
-        requires seat { IsSeatOf self.now seat.old }
+        requires seat { IsSeatOfDesk self.now seat.old }
         requires may { 0 < seat.old.view.to_split }
         ensures from { seat.new ≡ record { desk = seat.old.desk; view = split_from seat.old.view } }
         ensures off { result ≡ record { desk = seat.old.desk; view = split_off seat.old.view } }
-        ensures seats { IsSeatOf self.now seat.new × IsSeatOf self.now result }
+        ensures seats { IsSeatOfDesk self.now seat.new × IsSeatOfDesk self.now result }
     {
         let place = self.table.shared.split_seat::<Splitting>(&mut seat.place);
         seat.to_split -= 1;
         DeskSeat { place, to_split: 0 }
     }
 
-    /// Joins a seat into another, which takes over what the joined one was told. What its own steps found stays as it was.
+    /// Joins a seat into another, which then has the notes of both. What its own steps found stays
+    /// as it was.
     pub fn join(&self, into: &mut DeskSeat, from: DeskSeat)
-        requires seats { IsSeatOf self.now into.old × IsSeatOf self.now from }
-        ensures joined { into.new ≡ record { desk = into.old.desk; view = joined_with into.old.view from.view } }
-        ensures seat { IsSeatOf self.now into.new }
+        requires seats { IsSeatOfDesk self.now into.old × IsSeatOfDesk self.now from }
+        ensures joined { into.new ≡ record {
+          desk = into.old.desk;
+          view = joined_with into.old.view from.view;
+        } }
+        ensures seat { IsSeatOfDesk self.now into.new }
     {
         let DeskSeat { place, .. } = from;
         self.table
@@ -85,14 +100,16 @@ impl Desk {
             .join_seat::<Joining>(&mut into.place, place);
     }
 
-    /// Posts the moment, below 2^63, at which a link was over: one atomic step. `First` exactly where nothing stood for the link at that
-    /// step; then this moment stands from then on. Else `Before`, with the moment that stands, and nothing changes.
+    /// Posts the moment, below 2^63, at which a link was over: one atomic step. `First` exactly if
+    /// nothing stood for the link at that step; then this moment stands from then on. Else
+    /// `Before`, with the moment that stands, and nothing changes. Either way the seat notes what
+    /// stands.
     pub fn post(&self, seat: &mut DeskSeat, link: LinkId, moment: u64) -> Posted
-        requires seat { IsSeatOf self.now seat.old }
+        requires seat { IsSeatOfDesk self.now seat.old }
         requires link { HasLink self.now link }
         requires moment { moment < 2 ^ 63 }
         ensures posts { Posts seat.old seat.new link moment result }
-        ensures seat { IsSeatOf self.now seat.new }
+        ensures seat { IsSeatOfDesk self.now seat.new }
     {
         let place = link.0 as usize + 1;
         let word = self
@@ -105,13 +122,13 @@ impl Desk {
         }
     }
 
-    /// Reads the moment that stands for a link: one load. `None` exactly where nothing stood for it at that step; a moment that is read
-    /// stands for good.
+    /// Reads the moment that stands for a link: one load. `None` exactly if nothing stood for it at
+    /// that step; a moment that is read stands for good. The seat notes it.
     pub fn read(&self, seat: &mut DeskSeat, link: LinkId) -> Option<u64>
-        requires seat { IsSeatOf self.now seat.old }
+        requires seat { IsSeatOfDesk self.now seat.old }
         requires link { HasLink self.now link }
-        ensures reads { Reads seat.old seat.new link result }
-        ensures seat { IsSeatOf self.now seat.new }
+        ensures reads { ReadsLink seat.old seat.new link result }
+        ensures seat { IsSeatOfDesk self.now seat.new }
     {
         let place = link.0 as usize + 1;
         let word = self.table.shared.load::<Reading>(&mut seat.place, place);
@@ -120,7 +137,7 @@ impl Desk {
 
     /// Looks at what stands for a link, as `read`, and notes nothing.
     pub(crate) fn look(&self, seat: &mut DeskSeat, link: LinkId) -> Option<u64>
-        requires seat { IsSeatOf self.now seat.old }
+        requires seat { IsSeatOfDesk self.now seat.old }
         requires link { HasLink self.now link }
         ensures { Looks seat.old seat.new link result }
     {
@@ -131,7 +148,7 @@ impl Desk {
 
     /// The words as they are at the end of a desk.
     pub(crate) fn into_words(self, seat: DeskSeat) -> Closed<(), Global>
-        requires seat { IsSeatOf self seat }
+        requires seat { IsSeatOfDesk self seat }
         ensures left { IsLeft self.about seat.view (slots_items result.words) }
         ensures full { IsFull result.words }
         ensures count { slots_len result.words ≡ length self.about.net.value.links + 1 }
@@ -143,7 +160,7 @@ impl Desk {
     }
 }
 
-/// What a word of a link says: nothing where it is 0, else the moment below it.
+/// What a word of a link says: nothing if it is 0, else the moment one below it.
 pub(crate) fn moment_of_word(word: u64) -> Option<u64>
     ensures { result ≡ held word }
 {

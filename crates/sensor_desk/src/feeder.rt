@@ -1,12 +1,12 @@
-//! Feeders, each with a seat, that post at once, each in a thread of its own.
+//! Feeders, each with a seat, that post concurrently, each in its own thread.
 
 ghost use Rattle.std.specs.Prelude.{◌≡◌, ◌<◌, ◌≤◌, ◌^◌, ◌-◌, length, slice_index_or};
 ghost use Rattle.std.specs.List.{All};
-ghost use Rattle.sensor_desk.specs.Desks.{IsSeatOf, HasLink};
-ghost use Rattle.sensor_desk.specs.Feeders.{IsPostedAt, IsFedBy, AreFedBy, met_after};
+ghost use Rattle.sensor_desk.specs.Desks.{IsSeatOfDesk, HasLink};
+ghost use Rattle.sensor_desk.specs.Feeders.{IsPostedAt, HasPostedAll, AreFedBy, met_after};
 
 use crate::desk::Desk;
-use crate::posted::Posted;
+use crate::post_result::Posted;
 use crate::seat::DeskSeat;
 use net_model::LinkId;
 use std::thread::{Threads, for_each_mut};
@@ -19,13 +19,14 @@ pub struct Feeder {
     pub met: Option<u32>,
 }
 
-/// What is called before each post of `post_all`. It can change no answer; a test can hold posts back with it.
+/// What is called before each post of `post_all`. It can change no answer; a test can delay posts
+/// with it.
 pub trait PostGate: Sync {
-    /// Is called with the link, before a moment is posted for it.
+    /// Called with the link, before a moment is posted for it.
     fn before(&self, link: LinkId);
 }
 
-/// The gate that holds nothing back.
+/// The gate that delays nothing.
 #[derive(Clone, Copy, Debug)]
 pub struct NoPostGate;
 
@@ -34,9 +35,11 @@ impl PostGate for NoPostGate {
 }
 
 impl Desk {
-    /// Posts a moment, below 2^63, for fewer than 2^32 links by one feeder or several at once: with n of them, feeder k, counted from 0,
-    /// posts the links at the places k, k + n and so on, each once and in this order. Its `met` becomes the first of its places whose answer
-    /// was `Before`, or `None` where each was `First`. Where a thread can't be started, the caller makes its posts.
+    /// Posts a moment, below 2^63, for fewer than 2^32 links by one feeder or several concurrently:
+    /// with n of them, feeder k, counted from 0, posts the links at the places k, k + n and so on,
+    /// each once and in this order. Its `met` becomes the first of its places whose answer was
+    /// `Before`, or `None` if each was `First`. If a thread can't be started, the caller makes its
+    /// posts. That two posts are made at once is tested in `example_desk`; no clause says it.
     pub fn post_all<R: Threads + Sync, G: PostGate>(
         &self,
         rt: &R,
@@ -46,21 +49,22 @@ impl Desk {
         gate: &G,
     )
         requires some { 0 < length feeders.old }
-        requires seats { All (λ feeder. IsSeatOf self.now feeder.seat) feeders.old }
+        requires seats { All (λ feeder. IsSeatOfDesk self.now feeder.seat) feeders.old }
         requires links { All (HasLink self.now) links.now × (length links.now < 2 ^ 32) }
         requires moment { moment < 2 ^ 63 }
         ensures fed { AreFedBy links.now moment feeders.old feeders.new }
-        ensures seats { All (λ feeder. IsSeatOf self.now feeder.seat) feeders.new }
+        ensures seats { All (λ feeder. IsSeatOfDesk self.now feeder.seat) feeders.new }
     {
         let count = feeders.len();
         let post = |number: usize, feeder: &mut Feeder|
             requires step { (0 < count) × (count < 2 ^ 63) }
             requires few { length links.now < 2 ^ 32 }
-            requires seat { IsSeatOf self.now feeder.old.seat }
+            requires seat { IsSeatOfDesk self.now feeder.old.seat }
             requires links { All (HasLink self.now) links.now }
             requires moment { moment < 2 ^ 63 }
-            ensures fed { IsFedBy links.entry.now moment number count feeder.entry.now feeder.exit.now }
-            ensures seat { IsSeatOf self.entry.now feeder.exit.now.seat }
+            ensures fed { HasPostedAll links.entry.now moment number count feeder.entry.now
+                feeder.exit.now }
+            ensures seat { IsSeatOfDesk self.entry.now feeder.exit.now.seat }
         { self.post_in_turn(feeder, number, count, moment, links, gate) };
         for_each_mut(rt, feeders, count, &post);
     }
@@ -77,11 +81,11 @@ impl Desk {
     )
         requires step { (0 < step) × (step < 2 ^ 63) }
         requires few { length links.now < 2 ^ 32 }
-        requires seat { IsSeatOf self.now feeder.old.seat }
+        requires seat { IsSeatOfDesk self.now feeder.old.seat }
         requires links { All (HasLink self.now) links.now }
         requires moment { moment < 2 ^ 63 }
-        ensures fed { IsFedBy links.now moment first step feeder.old feeder.new }
-        ensures seat { IsSeatOf self.now feeder.new.seat }
+        ensures fed { HasPostedAll links.now moment first step feeder.old feeder.new }
+        ensures seat { IsSeatOfDesk self.now feeder.new.seat }
     {
         feeder.met = None;
         let mut place = first;
@@ -102,7 +106,7 @@ impl Desk {
     )
         requires place { place < length links.now }
         requires few { length links.now < 2 ^ 32 }
-        requires seat { IsSeatOf self.now feeder.old.seat }
+        requires seat { IsSeatOfDesk self.now feeder.old.seat }
         requires links { All (HasLink self.now) links.now }
         requires moment { moment < 2 ^ 63 }
         ensures { IsPostedAt links.now moment place feeder.old feeder.new }

@@ -1,19 +1,19 @@
 //! What was found so far of the links of open points.
 
 ghost use Rattle.std.specs.Prelude.{◌≡◌, ◌<◌, ◌+◌, ◌++◌, length, Some, take};
-ghost use Rattle.sensor_desk.specs.Following.{late_after, listed_after};
+ghost use Rattle.sensor_desk.specs.Follower.{late_after, listed_after};
 
 use net_model::PointId;
 
-/// What was found so far of the links of open points: the first point whose link stands at a moment that has gone by, and how many links
-/// stand at the moment.
+/// What was found so far of the links of open points: the first point whose link stands at a moment
+/// that has passed, and how many links stand at the moment.
 #[derive(Clone, Copy)]
 pub(crate) struct Findings {
     pub(crate) late: Option<(PointId, u64)>,
     pub(crate) count: usize,
 }
 
-/// Takes in what was found of the link of a point.
+/// Adds what was found of the link of a point.
 pub(crate) fn take_in(
     before: Findings,
     room: &mut [PointId],
@@ -23,7 +23,8 @@ pub(crate) fn take_in(
 ) -> Findings
     requires room { found ≡ Some moment → before.count < length room.old }
     ensures late { result.late ≡ late_after moment before.late point found }
-    ensures listed { take result.count room.new ≡ take before.count room.old ++ listed_after moment point found }
+    ensures listed { take result.count room.new ≡ take before.count room.old ++ listed_after moment
+        point found }
     ensures count { result.count ≡ before.count + length (listed_after moment point found) }
     ensures length { length room.new ≡ length room.old }
 {

@@ -1,4 +1,4 @@
-//! The rule under which the table of a desk stands, and what its steps tell.
+//! The rule of the table of a desk, and what its steps note.
 
 use crate::view::{About, Standing};
 use atomic_table::{Join, Play, Split, TableRule};
@@ -7,11 +7,11 @@ use atomic_table::{Join, Play, Split, TableRule};
 pub(crate) struct Histories;
 
 impl TableRule<(), Standing, About> for Histories {
-    ghost use Rattle.sensor_desk.specs.DeskRule.{IsLed};
+    ghost use Rattle.sensor_desk.specs.DeskRule.{IsReachedBy};
     ghost use Rattle.sensor_desk.specs.Views.{first_view};
     ghost use Rattle.sensor_desk.specs.declared.view.Standing.TheVariants.{Live};
 
-    ghost holds = { IsLed };
+    ghost holds = { IsReachedBy };
 
     ghost first = { λ about. Live (first_view about) };
 }

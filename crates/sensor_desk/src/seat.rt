@@ -1,9 +1,12 @@
+//! A seat at a desk, and what is known of it.
+
 ghost use Rattle.std.specs.Prelude.{◌≡◌};
 
 use crate::view::Standing;
 use std::marker::Model;
 
-/// A seat at a desk, by which one holder steps at it. Contracts see what it was told, and what each of its own steps found.
+/// A seat at a desk, by which its owner posts and reads. Contracts see its notes, and what each of
+/// its own steps found.
 #[derive(Drop)]
 pub struct DeskSeat {
     pub(crate) place: atomic_table::Seat<(), Standing>,
@@ -11,16 +14,16 @@ pub struct DeskSeat {
 }
 
 impl Model for DeskSeat {
-    ghost use Rattle.sensor_desk.specs.Desks.{SeatSeen};
-    ghost use Rattle.sensor_desk.specs.Seats.{seat_code, seen_at, IsSeated};
+    ghost use Rattle.sensor_desk.specs.Desks.{DeskSeatSeen};
+    ghost use Rattle.sensor_desk.specs.Seats.{seat_code, seen_at, IsSeatedAtDesk};
 
-    ghost Value = { SeatSeen };
+    ghost Value = { DeskSeatSeen };
 
     ghost coded = { seat_code };
 
     ghost view = { λ seat. seen_at seat.place };
 
-    ghost invariant = { λ seat. IsSeated seat.place seat.to_split };
+    ghost invariant = { λ seat. IsSeatedAtDesk seat.place seat.to_split };
 }
 
 impl DeskSeat {

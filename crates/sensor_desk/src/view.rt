@@ -1,4 +1,5 @@
-//! What is known of a desk and of its seats. Values of `View` and `Standing` stand in contracts alone: none is made.
+//! What is known of a desk and of its seats. Values of `View` and `Standing` stand in contracts
+//! only: none is made.
 
 use net_model::{LinkId, Network};
 use std::snapshot::Snapshot;
@@ -10,7 +11,7 @@ pub struct About {
     pub seats: u32,
 }
 
-/// What a seat was told of a link: the moment that stands for it.
+/// What a seat has noted of a link: the moment that stands for it.
 #[derive(Clone, Copy, Debug)]
 pub struct Note {
     pub link: LinkId,
@@ -27,7 +28,8 @@ pub struct Look {
 /// What a seat knows of its desk.
 pub struct View {
     pub about: About,
-    /// What it was told, and what the seats were told that were joined into it. A clause reads an array as a list, of any length.
+    /// Its notes, and those of the seats that were joined into it. A clause reads an array as a
+    /// list, of any length.
     pub notes: [Note; 0],
     /// What its own steps found.
     pub looks: [Look; 0],

@@ -1,6 +1,6 @@
 -- How a session stands after an edit, and the table that it puts.
 use Rattle.std.proofs.Common.{◌≡◌, ℕ, List, Some, Result, Ok, Err, inl, refl, sym, ap, ◌∙◌, subst}
-use Rattle.net_model.specs.Editing.{edited}
+use Rattle.net_model.specs.EditedNetwork.{edited}
 use Rattle.net_model.specs.Network.{Plan}
 use Rattle.net_model.specs.ShownForm.{shown_form}
 use Rattle.net_model.specs.declared.edit.Edit.{Edit}

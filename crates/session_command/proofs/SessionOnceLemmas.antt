@@ -1,17 +1,17 @@
 -- Each line of a session has one answer, and after each it stands in one way.
 use Rattle.std.proofs.Common.{◌≡◌, ◌⊎◌, inl, inr, ℕ, List, [], ◌∷◌, ◌++◌, Some, Result, Ok, Err, ap, sym, ◌∙◌, subst}
 use Rattle.texts.specs.Words.{words}
-use Rattle.net_model.specs.Editing.{edited}
+use Rattle.net_model.specs.EditedNetwork.{edited}
 use Rattle.net_model.specs.Network.{Plan}
 use Rattle.net_model.specs.ShownForm.{shown_form}
 use Rattle.net_model.specs.declared.edit.Edit.{Edit}
 use Rattle.net_model.specs.declared.edit.EditFault.{EditFault}
 use Rattle.net_model.specs.declared.format.FormatKind.{FormatKind}
 use Rattle.closure_model.specs.Tables.{Graph}
-use Rattle.closure_model.proofs.LawProofs.{closure_is_one}
+use Rattle.closure_model.proofs.LawProofs.{law_closure_is_one}
 use Rattle.cert_format.specs.CertificateWords.{printed_certificate}
 use Rattle.dispatch_net.specs.Dispatchable.{dispatchable}
-use Rattle.edit_script.specs.EditText.{IsLine, IsFaultOfWords}
+use Rattle.edit_script.specs.EditText.{IsEditLine, IsEditFaultOfWords}
 use Rattle.edit_script.specs.Laws.{OneReading as OneStep}
 use Rattle.edit_script.specs.declared.step.Step.{Step}
 use Rattle.edit_script.specs.declared.step.Step.TheVariants as step
@@ -21,13 +21,13 @@ use Rattle.plan_session.specs.Sessions.{State, Opened, FollowsEdit, Accepts}
 use Rattle.plan_session.specs.declared.answers.Report.{Report}
 use Rattle.command_engine.specs.Single.{IsSingle, IsSingleAnswer}
 use Rattle.command_engine.specs.declared.endings.End.{End}
-use Rattle.command_engine.specs.declared.machines.Onward.{Onward}
-use Rattle.command_engine.specs.declared.machines.Onward.TheVariants.{Goes, Ends}
+use Rattle.command_engine.specs.declared.machines.Flow.{Flow}
+use Rattle.command_engine.specs.declared.machines.Flow.TheVariants.{Continue, Finish}
 use Rattle.command_engine.specs.declared.machines.Stop.{Stop}
 use Rattle.command_engine.proofs.PhaseLemmas.{within_same}
-use Rattle.event_execution.specs.Executing.{executing_machine}
+use Rattle.event_phase.specs.EventPhase.{executing_machine}
 use Rattle.common_answers.specs.Faults.{fault_line, fault_end}
-use Rattle.event_execution.specs.Begin.{BeginsExecution}
+use Rattle.event_phase.specs.ExecutionStart.{BeginsExecution}
 use Rattle.session_command.specs.SessionAnswers.{ready_line, table_text}
 use Rattle.session_command.specs.SessionPromise.{SaysSteps, SaysAll}
 use Rattle.session_command.specs.Sessions.{net_of, SaysEdit, SaysVerdict, SaysProof, SaysTable, SaysStep, StandsEdited, StandsAfterEdit, StandsAfter, EditsOn, BeginsByGo, AnswersStep, TakesStep, session_machine, OpensOn, session_begins}
@@ -35,8 +35,8 @@ use Rattle.session_command.specs.Standing.{Standing}
 use Rattle.common_answers.specs.declared.faults.Fault.TheVariants.{Format}
 use Rattle.session_command.specs.declared.session.InSession.{InSession}
 use Rattle.session_command.specs.declared.session.InSession.TheVariants.{Editing, Executing}
-use Rattle.table_proofs.proofs.LawProofs.{certificates_are_one}
-use Rattle.event_execution.proofs.OnceLemmas.{begun_one, executing_single}
+use Rattle.closure_certificates.proofs.LawProofs.{law_certificates_are_one}
+use Rattle.event_phase.proofs.OnceLemmas.{begins_once, executing_single}
 
 -- ---- the answer to a line
 edit_said_once : (net : Plan) (made : Result Plan EditFault) (a b : List ℕ) → SaysEdit net made a → SaysEdit net made b → a ≡ b
@@ -50,15 +50,16 @@ verdict_said_once net a b (inr (never, one)) (inl (controls, other)) = absurd (n
 verdict_said_once net a b (inr (never, one)) (inr (also, other)) = one ∙ sym other
 
 proof_said_once : (net : Plan) (a b : List ℕ) → SaysProof net a → SaysProof net b → a ≡ b
-proof_said_once net a b (cert, decides, is) (other, also, same) = is ∙ (ap printed_certificate (certificates_are_one (shown_form net) cert other decides also) ∙ sym same)
+proof_said_once net a b (cert, decides, is) (other, also, same) = is ∙ (ap printed_certificate (law_certificates_are_one (shown_form net) cert other decides also) ∙ sym same)
 
 table_said_once : (net : Plan) (a b : List ℕ) → SaysTable net a → SaysTable net b → a ≡ b
-table_said_once net a b (inl (controls, (table, closure, one))) (inl (also, (same, is, other))) = one ∙ (ap (λ (t : Graph). table_text (shown_form net) (dispatchable (shown_form net) t)) (closure_is_one (shown_form net) table same closure is) ∙ sym other)
+table_said_once net a b (inl (controls, (table, closure, one))) (inl (also, (same, is, other))) = one
+    ∙ (ap (λ (t : Graph). table_text (shown_form net) (dispatchable (shown_form net) t)) (law_closure_is_one (shown_form net) table same closure is) ∙ sym other)
 table_said_once net a b (inl (controls, one)) (inr (never, other)) = absurd (never controls)
 table_said_once net a b (inr (never, one)) (inl (controls, other)) = absurd (never controls)
 table_said_once net a b (inr (never, one)) (inr (also, other)) = one ∙ sym other
 
-said_once : (standing : Standing) (told : Step) (a b : List ℕ) → SaysStep standing told a → SaysStep standing told b → a ≡ b
+said_once : (standing : Standing) (step_stated : Step) (a b : List ℕ) → SaysStep standing step_stated a → SaysStep standing step_stated b → a ≡ b
 said_once standing step.Blank a b one other = one ∙ sym other
 said_once standing (step.Edit edit) a b one other = edit_said_once (net_of standing) (edited (net_of standing) edit) a b one other
 said_once standing step.Verdict a b one other = verdict_said_once (net_of standing) a b one other
@@ -71,18 +72,19 @@ said_once standing step.End a b one other = absurd one
 
 -- ---- the reply to a line
 module _ (steps : (line : List (List ℕ)) → OneStep line) where
-  -- what a line tells decides the answer
-  pub told_step : (standing : Standing) (number : ℕ) (told : Step) (line answer : List ℕ) (onward : Onward InSession) → IsLine told line → TakesStep standing number line answer onward → AnswersStep standing told answer onward
-  told_step standing number told line answer onward is (inl (other, also, answers)) =
-      subst (λ (t : Step). AnswersStep standing t answer onward) ((steps (words line)).one_telling other told also is) answers
-  told_step standing number told line answer onward is (inr (kind, fault, puts, so)) = absurd ((steps (words line)).not_both told kind is fault)
+  -- what a line states decides the answer
+  pub stated_step : (standing : Standing) (number : ℕ) (step_stated : Step) (line answer : List ℕ) (flow : Flow InSession) → IsEditLine step_stated line → TakesStep standing number line answer flow
+      → AnswersStep standing step_stated answer flow
+  stated_step standing number step_stated line answer flow is (inl (other, also, answers)) =
+      subst (λ (t : Step). AnswersStep standing t answer flow) ((steps (words line)).one_statement other step_stated also is) answers
+  stated_step standing number step_stated line answer flow is (inr (kind, fault, puts, so)) = absurd ((steps (words line)).not_both step_stated kind is fault)
 
-  pub fault_step : (standing : Standing) (number : ℕ) (kind : FormatKind) (line answer : List ℕ) (onward : Onward InSession) → IsFaultOfWords (words line) kind → TakesStep standing number line answer onward
-      → (answer ≡ fault_line (Format number kind)) × (onward ≡ Ends (fault_end (Format number kind)))
-  fault_step standing number kind line answer onward is (inl (told, also, answers)) = absurd ((steps (words line)).not_both told kind also is)
-  fault_step standing number kind line answer onward is (inr (other, fault, puts, so)) =
+  pub fault_step : (standing : Standing) (number : ℕ) (kind : FormatKind) (line answer : List ℕ) (flow : Flow InSession) → IsEditFaultOfWords (words line) kind → TakesStep standing number line answer flow
+      → (answer ≡ fault_line (Format number kind)) × (flow ≡ Finish (fault_end (Format number kind)))
+  fault_step standing number kind line answer flow is (inl (step_stated, also, answers)) = absurd ((steps (words line)).not_both step_stated kind also is)
+  fault_step standing number kind line answer flow is (inr (other, fault, puts, so)) =
       let same = (steps (words line)).one_fault other kind fault is in
-      (puts ∙ ap (λ (k : FormatKind). fault_line (Format number k)) same, so ∙ ap (λ (k : FormatKind). let onward : Onward InSession = Ends (fault_end (Format number k)) in onward) same)
+      (puts ∙ ap (λ (k : FormatKind). fault_line (Format number k)) same, so ∙ ap (λ (k : FormatKind). let flow : Flow InSession = Finish (fault_end (Format number k)) in flow) same)
 
 -- ---- how the session stands
 abbrev open_state : Plan → Opened → State
@@ -115,7 +117,7 @@ module _ (way : OneWay) where
   after_edit_once before edit (Ok net) a b one other = edited_once before edit a b one other
   after_edit_once before edit (Err cause) a b one other = one ∙ sym other
 
-  stands_once : (before : Standing) (told : Step) (a b : Standing) → StandsAfter before told a → StandsAfter before told b → a ≡ b
+  stands_once : (before : Standing) (step_stated : Step) (a b : Standing) → StandsAfter before step_stated a → StandsAfter before step_stated b → a ≡ b
   stands_once before (step.Edit edit) a b one other = after_edit_once before edit (edited (net_of before) edit) a b one other
   stands_once before step.Blank a b one other = one ∙ sym other
   stands_once before step.Verdict a b one other = one ∙ sym other
@@ -127,20 +129,20 @@ module _ (way : OneWay) where
   stands_once before step.End a b one other = one ∙ sym other
 
   -- ---- how it goes on
-  edits_once : (standing : Standing) (told : Step) (a b : List ℕ) (x y : Onward InSession) → EditsOn standing told a x → EditsOn standing told b y → (a ≡ b) × (x ≡ y)
-  edits_once standing told a b x y (after, said, stands, goes) (other, says, also, going) =
-      let same : after ≡ other = stands_once standing told after other stands also in
-      let onward : Standing → Onward InSession = λ s. Goes (Editing s) in
-      (said_once standing told a b said says, goes ∙ (ap onward same ∙ sym going))
+  edits_once : (standing : Standing) (step_stated : Step) (a b : List ℕ) (x y : Flow InSession) → EditsOn standing step_stated a x → EditsOn standing step_stated b y → (a ≡ b) × (x ≡ y)
+  edits_once standing step_stated a b x y (after, said, stands, goes) (other, says, also, going) =
+      let same : after ≡ other = stands_once standing step_stated after other stands also in
+      let flow : Standing → Flow InSession = λ s. Continue (Editing s) in
+      (said_once standing step_stated a b said says, goes ∙ (ap flow same ∙ sym going))
 
-  go_once : (standing : Standing) (a b : List ℕ) (x y : Onward InSession) → BeginsByGo standing a x ⊎ EditsOn standing step.Go a x → BeginsByGo standing b y ⊎ EditsOn standing step.Go b y → (a ≡ b) × (x ≡ y)
+  go_once : (standing : Standing) (a b : List ℕ) (x y : Flow InSession) → BeginsByGo standing a x ⊎ EditsOn standing step.Go a x → BeginsByGo standing b y ⊎ EditsOn standing step.Go b y → (a ≡ b) × (x ≡ y)
   go_once standing a b x y (inl (controls, one)) (inl (also, other)) =
-      within_same Executing (BeginsExecution (shown_form (net_of standing))) (λ c d u v. begun_one (shown_form (net_of standing)) c d u v) a b x y one other
+      within_same Executing (BeginsExecution (shown_form (net_of standing))) (λ c d u v. begins_once (shown_form (net_of standing)) c d u v) a b x y one other
   go_once standing a b x y (inl (controls, one)) (inr (after, never, stands, goes)) = absurd (never.0 controls)
   go_once standing a b x y (inr (after, never, stands, goes)) (inl (controls, other)) = absurd (never.0 controls)
   go_once standing a b x y (inr one) (inr other) = edits_once standing step.Go a b x y one other
 
-  step_once : (standing : Standing) (told : Step) (a b : List ℕ) (x y : Onward InSession) → AnswersStep standing told a x → AnswersStep standing told b y → (a ≡ b) × (x ≡ y)
+  step_once : (standing : Standing) (step_stated : Step) (a b : List ℕ) (x y : Flow InSession) → AnswersStep standing step_stated a x → AnswersStep standing step_stated b y → (a ≡ b) × (x ≡ y)
   step_once standing step.End a b x y one other = (one.0 ∙ sym other.0, one.1 ∙ sym other.1)
   step_once standing step.Go a b x y one other = go_once standing a b x y one other
   step_once standing step.Blank a b x y one other = edits_once standing step.Blank a b x y one other
@@ -153,20 +155,20 @@ module _ (way : OneWay) where
 
   -- ---- the phase
   module _ (steps : (line : List (List ℕ)) → OneStep line) where
-    line_once : (standing : Standing) (number : ℕ) (line a b : List ℕ) (x y : Onward InSession) → TakesStep standing number line a x → TakesStep standing number line b y → (a ≡ b) × (x ≡ y)
-    line_once standing number line a b x y (inl (told, is, one)) other = step_once standing told a b x y one (told_step steps standing number told line b y is other)
+    line_once : (standing : Standing) (number : ℕ) (line a b : List ℕ) (x y : Flow InSession) → TakesStep standing number line a x → TakesStep standing number line b y → (a ≡ b) × (x ≡ y)
+    line_once standing number line a b x y (inl (step_stated, is, one)) other = step_once standing step_stated a b x y one (stated_step steps standing number step_stated line b y is other)
     line_once standing number line a b x y (inr (kind, is, put, ends)) other =
         let same = fault_step steps standing number kind line b y is other in
         (put ∙ sym same.0, ends ∙ sym same.1)
 
     module _ (reading : (net : Plan) (line : List (List ℕ)) → OneReading net line) where
-      takes_once : (state : InSession) (number : ℕ) (line a b : List ℕ) (x y : Onward InSession) → session_machine.takes state number line a x → session_machine.takes state number line b y → (a ≡ b) × (x ≡ y)
+      takes_once : (state : InSession) (number : ℕ) (line a b : List ℕ) (x y : Flow InSession) → session_machine.takes state number line a x → session_machine.takes state number line b y → (a ≡ b) × (x ≡ y)
       takes_once (Editing standing) number line a b x y one other = line_once standing number line a b x y one other
-      takes_once (Executing course) number line a b x y one other = within_same Executing (executing_machine.takes course number line) (λ c d u v. (executing_single reading).takes course number line c d u v) a b x y one other
+      takes_once (Executing event_run) number line a b x y one other = within_same Executing (executing_machine.takes event_run number line) (λ c d u v. (executing_single reading).takes event_run number line c d u v) a b x y one other
 
       stops_once : (state : InSession) (number : ℕ) (stop : Stop) (a b : List ℕ) (x y : End) → session_machine.stops state number stop a x → session_machine.stops state number stop b y → (a ≡ b) × (x ≡ y)
       stops_once (Editing standing) number stop a b x y one other = (one.0 ∙ sym other.0, one.1 ∙ sym other.1)
-      stops_once (Executing course) number stop a b x y one other = (executing_single reading).stops course number stop a b x y one other
+      stops_once (Executing event_run) number stop a b x y one other = (executing_single reading).stops event_run number stop a b x y one other
 
       pub session_single : IsSingle session_machine
       session_single = record { takes = takes_once; stops = stops_once }
@@ -183,15 +185,15 @@ module _ (way : OneWay) where
 
   pub session_begins_once : IsSingleAnswer session_begins
   session_begins_once start net a b x y (standing, opens, put, goes) (other, also, puts, going) =
-      let onward : Standing → Onward InSession = λ s. Goes (Editing s) in
-      (put ∙ sym puts, goes ∙ (ap onward (opens_once net standing other opens also) ∙ sym going))
+      let flow : Standing → Flow InSession = λ s. Continue (Editing s) in
+      (put ∙ sym puts, goes ∙ (ap flow (opens_once net standing other opens also) ∙ sym going))
 
   -- ---- over any number of lines
   pub says_once : (steps : List Step) (first : Standing) (a b : List ℕ) (last other : Standing) → SaysSteps first steps a last → SaysSteps first steps b other → (a ≡ b) × (last ≡ other)
   says_once [] first a b last other one two = (one.0 ∙ sym two.0, sym one.1 ∙ two.1)
-  says_once (told ∷ steps) first a b last other (answer, more, next, says, stands, all, on) (answered, others, after, also, so, whole, later) =
-      let same : next ≡ after = stands_once first told next after stands so in
-      let answers : answer ≡ answered = said_once first told answer answered says also in
+  says_once (step_stated ∷ steps) first a b last other (answer, more, next, says, stands, all, on) (answered, others, after, also, so, whole, later) =
+      let same : next ≡ after = stands_once first step_stated next after stands so in
+      let answers : answer ≡ answered = said_once first step_stated answer answered says also in
       let rest = says_once steps after more others last other (subst (λ (s : Standing). SaysSteps s steps more last) same on) later in
       (all ∙ (ap (λ (s : List ℕ). s ++ more) answers ∙ (ap (λ (s : List ℕ). answered ++ s) rest.0 ∙ sym whole)), rest.1)
 

@@ -1,48 +1,54 @@
-//! The command `session`: a plan, then edits of its network and questions about it, and after `go` the execution of the network as it
-//! stands.
+//! The command `session`: a plan, then edits of its network and questions about it, and after `go`
+//! the execution of the network as it stands.
 
 ghost use Rattle.std.specs.Prelude.{◌≡◌, [], IfOk};
-ghost use Rattle.command_engine.specs.Machine.{HasRoom};
+ghost use Rattle.command_engine.specs.Machine.{HasCapacity};
 ghost use Rattle.command_engine.specs.Phases.{wrapped};
 ghost use Rattle.session_command.specs.SessionPromise.{session_promise};
-ghost use Rattle.session_command.specs.Sessions.{session_begins, session_machine, session_start, AnswersStep};
+ghost use Rattle.session_command.specs.Sessions.{session_begins, session_machine, session_start};
+ghost use Rattle.session_command.specs.Sessions.{AnswersStep};
 ghost use Rattle.edit_script.specs.declared.step.Step.TheVariants as step;
 
-use crate::editing::Editing;
-use command_engine::{Answer, Begin, Command, End, Onward, Refusal, Stop, TextThenPhase, Word};
-use command_frame::{FormAndWorkers, OneRun, Promising};
+use crate::edited_session::Editing;
+use command_contracts::{FormAndWorkers, OneRun, Specified};
+use command_engine::{Answer, Begin, Command, End, Flow, Refusal, Stop, TextThenPhase, Word};
 use common_answers::{Fault, push_verdict, stop_fault};
-use edit_script::laws::lines_have_one_reading as one_step;
+use edit_script::laws::law_lines_have_one_reading as one_step;
 use edit_script::{Step, read_step};
-use event_execution::{Executing, begin_dispatched};
-use event_stream::laws::lines_have_one_reading;
+use event_phase::{Executing, begin_dispatched};
+use event_stream::laws::law_lines_have_one_reading;
 use execution_model::laws as execution_laws;
+use input_texts::{PlanInput, PlanNetwork};
 use net_model::{FormatKind, Network, WordFault};
-use plan_inputs::{PlanInput, PlanNetwork};
 use plan_port::MOST_LINE;
-use plan_session::laws::{edits_are_followed_in_one_way, sessions_open_in_one_way};
+use plan_session::laws::{law_edits_are_followed_in_one_way, law_sessions_open_in_one_way};
 use std::alloc::{AllocError, Global};
 use std::marker::Model;
 use std::thread::Threads;
 
-/// A session of a plan: the command `session` reads a plan, and puts `ready`. Then it answers each line by the network as it stands after
-/// the accepted edits before it: an edit by `ok`, or by `refused` and the cause, and then nothing changed; and each question. It goes on
-/// until the line `end`, at which it ends with 0, or until `go` where some strategy controls the network: from then on the network is
-/// executed over lines of events, as `run` does.
+/// A session of a plan: the command `session` reads a plan, and puts `ready`. Then it answers each
+/// line by the network as it stands after the accepted edits before it: an edit by `ok`, or by
+/// `refused` and the cause, and then nothing changed; and each question. It goes on until the line
+/// `end`, at which it ends with 0, or until `go` if some strategy controls the network: from then
+/// on the network is executed over lines of events, as `run` does. `report` says how many
+/// derivations the last accepted edit kept and withdrew, and how many rounds were made then. It
+/// never ends with 1. For want of memory, at 8, it has put answers to whole lines, none of which
+/// began an execution, or nothing. What it promises is `SessionPromise`, and at 8 `SaysWhole`.
 #[derive(Drop)]
-pub struct OpenSession {
-    asked: FormAndWorkers,
+pub struct SessionCommand {
+    query: FormAndWorkers,
 }
 
-impl Model for OpenSession {
-    ghost use Rattle.plan_inputs.specs.declared.plan_input.PlanForm.{PlanForm};
+impl Model for SessionCommand {
+    ghost use Rattle.input_texts.specs.declared.plan_input.PlanForm.{PlanForm};
 
     ghost Value = { PlanForm };
 
-    ghost view = { λ session. session.asked };
+    ghost view = { λ session. session.query };
 }
 
-/// A session after its plan.
+/// A session after its plan. It may want memory while its network is edited, and wants none while
+/// it is executed.
 #[derive(Drop)]
 pub enum InSession {
     /// Its network is edited.
@@ -52,9 +58,9 @@ pub enum InSession {
 }
 
 /// The command: how far its input was read.
-pub type SessionCommand = TextThenPhase<OpenSession, PlanInput, InSession>;
+pub type ServedSession = TextThenPhase<SessionCommand, PlanInput, InSession>;
 
-impl Begin<PlanNetwork> for OpenSession {
+impl Begin<PlanNetwork> for SessionCommand {
     type Phase = InSession;
 
     ghost begins = { session_begins };
@@ -65,10 +71,10 @@ impl Begin<PlanNetwork> for OpenSession {
         alloc: Global,
         answer: &mut Answer,
         value: PlanNetwork,
-    ) -> Result<Onward<InSession>, AllocError> {
-        let editing = Editing::open(rt, alloc, value.into_network(), &self.asked.workers)?;
+    ) -> Result<Flow<InSession>, AllocError> {
+        let editing = Editing::open(rt, alloc, value.into_network(), &self.query.workers)?;
         answer.push_line(&[Word::Text("ready")])?;
-        Ok(Onward::Goes(InSession::Editing(editing)))
+        Ok(Flow::Continue(InSession::Editing(editing)))
     }
 }
 
@@ -86,7 +92,7 @@ impl Command for InSession {
         answer: &mut Answer,
         number: u32,
         line: &[u8],
-    ) -> Result<Onward<InSession>, AllocError> {
+    ) -> Result<Flow<InSession>, AllocError> {
         match self {
             InSession::Executing(state) => Ok(executing(state.take_line(
                 rt, alloc, answer, number, line,
@@ -96,7 +102,7 @@ impl Command for InSession {
                 Err(WordFault::Kind(kind)) => {
                     let fault = Fault::Format(number, kind);
                     fault.put(answer);
-                    Ok(Onward::Ends(fault.end()))
+                    Ok(Flow::Finish(fault.end()))
                 }
                 Err(WordFault::OutOfMemory) => unreachable!(),
             },
@@ -115,32 +121,32 @@ impl Command for InSession {
     }
 }
 
-impl Promising for OpenSession {
+impl Specified for SessionCommand {
     type Request = FormAndWorkers;
 
-    type Served = SessionCommand;
+    type Served = ServedSession;
 
     ghost start = { session_start };
 
     ghost promise = { session_promise };
 
-    fn begun(alloc: Global, request: FormAndWorkers) -> SessionCommand {
-        let text = request.form.begun(alloc);
-        TextThenPhase::Reading(OpenSession { asked: request }, text)
+    fn initial(alloc: Global, request: FormAndWorkers) -> ServedSession {
+        let text = request.form.initial(alloc);
+        TextThenPhase::Reading(SessionCommand { query: request }, text)
     }
 
     fn keeps_its_promise() {
-        sessions_open_in_one_way();
-        edits_are_followed_in_one_way();
+        law_sessions_open_in_one_way();
+        law_edits_are_followed_in_one_way();
         one_step();
-        lines_have_one_reading();
-        execution_laws::faithful_streams_are_taken();
-        execution_laws::done_where_none_is_open();
-        execution_laws::ends_are_earliest();
-        execution_laws::acts_are_earliest();
-        execution_laws::last_acts_are_earliest();
-        execution_laws::streams_are_shown();
-        execution_laws::acts_are_shown();
+        law_lines_have_one_reading();
+        execution_laws::law_faithful_streams_are_taken();
+        execution_laws::law_done_where_none_is_open();
+        execution_laws::law_ends_are_earliest();
+        execution_laws::law_acts_are_earliest();
+        execution_laws::law_last_acts_are_earliest();
+        execution_laws::law_streams_are_shown();
+        execution_laws::law_acts_are_shown();
     }
 
     fn ends_by_its_causes() {}
@@ -148,61 +154,64 @@ impl Promising for OpenSession {
     fn keeps_it_without_memory() {}
 }
 
-impl OneRun for OpenSession {
+impl OneRun for SessionCommand {
     fn defines_one() {
-        sessions_open_in_one_way();
-        edits_are_followed_in_one_way();
+        law_sessions_open_in_one_way();
+        law_edits_are_followed_in_one_way();
         one_step();
-        lines_have_one_reading();
+        law_lines_have_one_reading();
     }
 }
 
-/// Answers what a line tells while the network is edited.
+/// Answers what a line states while the network is edited.
 fn answer_step<R: Threads + Sync>(
     rt: &R,
     alloc: Global,
     answer: &mut Answer,
     state: Editing,
     step: Step,
-) -> Result<Onward<InSession>, AllocError>
+) -> Result<Flow<InSession>, AllocError>
     requires { answer.old.text ≡ [] }
     ensures answers { IfOk result (AnswersStep state step answer.new.text) }
-    ensures room { IfOk result (λ onward. HasRoom session_machine onward answer.new.capacity) }
+    ensures spare_capacity { IfOk result
+        (λ flow. HasCapacity session_machine flow answer.new.capacity) }
 {
     match step {
-        Step::End => Ok(Onward::Ends(End::Done)),
+        Step::End => Ok(Flow::Finish(End::Done)),
         Step::Go => go(alloc, answer, state),
         Step::Edit(edit) => {
             let state = state.edit(rt, alloc, answer, &edit)?;
-            Ok(Onward::Goes(InSession::Editing(state)))
+            Ok(Flow::Continue(InSession::Editing(state)))
         }
         Step::Blank | Step::Verdict | Step::Proof | Step::Table | Step::Plan | Step::Report => {
-            state.tell(rt, alloc, answer, step)?;
-            Ok(Onward::Goes(InSession::Editing(state)))
+            state.in_steps(rt, alloc, answer, step)?;
+            Ok(Flow::Continue(InSession::Editing(state)))
         }
     }
 }
 
-/// Begins the execution of the shown form of the network as it stands, where that is controllable; else puts that it is not.
-fn go(alloc: Global, answer: &mut Answer, state: Editing) -> Result<Onward<InSession>, AllocError>
+/// Begins the execution of the shown form of the network as it stands, if that is controllable;
+/// else puts that it is not.
+fn go(alloc: Global, answer: &mut Answer, state: Editing) -> Result<Flow<InSession>, AllocError>
     requires { answer.old.text ≡ [] }
     ensures answers { IfOk result (AnswersStep state step.Go answer.new.text) }
-    ensures room { IfOk result (λ onward. HasRoom session_machine onward answer.new.capacity) }
+    ensures spare_capacity { IfOk result
+        (λ flow. HasCapacity session_machine flow answer.new.capacity) }
 {
     if !state.is_controllable() {
         push_verdict(answer, false)?;
-        return Ok(Onward::Goes(InSession::Editing(state)));
+        return Ok(Flow::Continue(InSession::Editing(state)));
     }
     let (shown, dispatch) = state.into_dispatched(alloc)?;
     Ok(executing(begin_dispatched(alloc, answer, shown, dispatch)?))
 }
 
 /// A session goes on as the execution of its network does.
-fn executing(onward: Onward<Executing>) -> Onward<InSession>
-    ensures { result ≡ wrapped InSession.Executing onward }
+fn executing(flow: Flow<Executing>) -> Flow<InSession>
+    ensures { result ≡ wrapped InSession.Executing flow }
 {
-    match onward {
-        Onward::Goes(state) => Onward::Goes(InSession::Executing(state)),
-        Onward::Ends(end) => Onward::Ends(end),
+    match flow {
+        Flow::Continue(state) => Flow::Continue(InSession::Executing(state)),
+        Flow::Finish(end) => Flow::Finish(end),
     }
 }

@@ -3,8 +3,9 @@
 ghost use Rattle.std.specs.Prelude.{◌≡◌, ◌<◌, ◌++◌, length, OnOk};
 ghost use Rattle.std.specs.List.{flat_map};
 ghost use Rattle.net_model.specs.NetworkParts.{point_name};
-ghost use Rattle.refutations.specs.Certifying.{bound_name, link_name};
-ghost use Rattle.session_command.specs.SessionAnswers.{refused_line, report_line, after_line, wait_line, conditions_text, table_text};
+ghost use Rattle.refutation_certificates.specs.Certificates.{bound_name, link_name};
+ghost use Rattle.session_command.specs.SessionAnswers.{refused_line, report_line, lower_bound_line};
+ghost use Rattle.session_command.specs.SessionAnswers.{wait_line, conditions_text, table_text};
 ghost use Rattle.dispatch_net.specs.Dispatchable.{conditions_at};
 
 use command_engine::{Answer, Word};
@@ -71,7 +72,8 @@ pub(crate) fn push_table(
     dispatch: &Dispatch,
 ) -> Result<(), AllocError>
     requires { length dispatch.now.kept ≡ length net.now.points }
-    ensures { OnOk result (answer.new.text ≡ answer.old.text ++ table_text net.now dispatch.now.kept) }
+    ensures { OnOk result (answer.new.text ≡ answer.old.text ++ table_text net.now
+        dispatch.now.kept) }
 {
     for point in 0..net.points().len() as u32 {
         push_conditions(answer, net, dispatch, PointId(point))?;
@@ -87,7 +89,8 @@ fn push_conditions(
     point: PointId,
 ) -> Result<(), AllocError>
     requires { point.0 < length dispatch.now.kept }
-    ensures { OnOk result (answer.new.text ≡ answer.old.text ++ conditions_text net.now point (conditions_at dispatch.now.kept point)) }
+    ensures { OnOk result (answer.new.text ≡ answer.old.text ++ conditions_text net.now point
+        (conditions_at dispatch.now.kept point)) }
 {
     push_bounds(answer, net, point, dispatch.lower_bounds(point))?;
     push_waits(answer, net, point, dispatch.waits(point))
@@ -100,7 +103,8 @@ fn push_bounds(
     point: PointId,
     bounds: &[(PointId, Weight)],
 ) -> Result<(), AllocError>
-    ensures { OnOk result (answer.new.text ≡ answer.old.text ++ flat_map (after_line net.now point) bounds.now) }
+    ensures { OnOk result (answer.new.text ≡ answer.old.text ++ flat_map
+        (lower_bound_line net.now point) bounds.now) }
 {
     for bound in bounds {
         let (other, moments) = *bound;
@@ -121,7 +125,8 @@ fn push_waits(
     point: PointId,
     waits: &[(LinkId, Weight)],
 ) -> Result<(), AllocError>
-    ensures { OnOk result (answer.new.text ≡ answer.old.text ++ flat_map (wait_line net.now point) waits.now) }
+    ensures { OnOk result (answer.new.text ≡ answer.old.text ++ flat_map
+        (wait_line net.now point) waits.now) }
 {
     for wait in waits {
         let (link, moments) = *wait;

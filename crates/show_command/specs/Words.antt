@@ -1,10 +1,10 @@
 -- Which words say uses of `show`.
 use Rattle.std.specs.Prelude.{◌≡◌, List, codes}
 use Rattle.command_words.specs.Arguments.{is_given}
-use Rattle.command_words.specs.Spelling.{Use, Says}
+use Rattle.command_words.specs.SpelledWords.{Use, Says}
 use Rattle.command_words.specs.Syntax.{Syntax, Text}
-use Rattle.plan_inputs.specs.PlanInput.{in_notation, json_name, notation_by}
-use Rattle.show_command.specs.declared.showing.Show.{Show}
+use Rattle.input_texts.specs.PlanInput.{in_notation, json_name, notation_by}
+use Rattle.show_command.specs.declared.show_question.Show.{Show}
 
 -- the words say uses of this command: this form of the plan that is read, which has its own delay, and this notation of the one
 -- that is put

@@ -2,7 +2,7 @@
 #![tactic(auto)]
 
 mod laws;
-mod showing;
+mod show_question;
 
-pub use laws::{show_is_lawful, show_is_read_exactly};
-pub use showing::Show;
+pub use laws::{law_show_is_lawful, law_show_is_read_exactly};
+pub use show_question::Show;

@@ -1,5 +1,6 @@
 -- When active links complete: the first completion, and what completes at a moment.
-use Rattle.std.proofs.Common.{◌≡◌, ◌≢◌, ℕ, zero, suc, ◌+◌, ◌<◌, ◌≤◌, ◌==◌, ◌⊎◌, Bool, true, false, cond, eq-eqb, List, [], ◌∷◌, ◌++◌, length, take, get_or, map, filter, fold, min, Option, Some, None, inl, inr, refl, ap, sym, subst, ◌∙◌, arith}
+use Rattle.std.proofs.Common.{◌≡◌, ◌≢◌, ℕ, zero, suc, ◌+◌, ◌<◌, ◌≤◌, ◌==◌, ◌⊎◌, Bool, true, false, cond, eq-eqb, List, [], ◌∷◌, ◌++◌, length, take, get_or, map, filter, fold, min, Option, Some, None, inl, inr, refl, ap, sym, subst, ◌∙◌}
+use Rattle.std.proofs.Common.{arith}
 use Rattle.std.specs.Prelude.{slice_get}
 use Rattle.std.specs.List.{All, AllPairs, AllByRecursion, Contains, IsDistinct, zip}
 use Rattle.std.specs.Option.{IsSomeAnd, option_map, option_map_or}
@@ -12,8 +13,8 @@ use Rattle.net_model.specs.declared.part.Link.{Link}
 use Rattle.closure_model.proofs.Lists.{Contains-head, Contains-tail, Contains-none, Contains-cases}
 use Rattle.strategy_model.specs.Plays.{same_point}
 use Rattle.net_model.specs.Moments.{Moments, moment_of}
-use Rattle.situation_player.specs.Playing.{lasting_in, lastings_of, completion, sooner, first_completion, completes_at, completing_at}
-use Rattle.situation_player.specs.declared.playing.Lasting.{Lasting}
+use Rattle.situation_player.specs.PlayedDays.{lasting_in, lastings_of, completion, sooner, first_completion, completes_at, completing_at}
+use Rattle.situation_player.specs.declared.played_day.Lasting.{Lasting}
 
 -- no later than a moment
 abbrev pub IsBy : Option ℕ → ℕ → Type 0
@@ -95,13 +96,13 @@ module _ (moments : Moments) where
     where
       by : (to from : Option ℕ) → moment_of moments lasting.to ≡ to → moment_of moments lasting.from ≡ from
           → (elim to [ Some m ↦ None | None ↦ option_map (λ activated. activated + lasting.duration) from ]) ≡ Some completed → Active lasting completed
-      by (Some m) from known begun so = absurd (none-some completed so)
-      by None None not_come begun so = absurd (none-some completed so)
-      by None (Some a) not_come begun so = record { activated = a; unknown = not_come; active = begun; later = same_Some (a + lasting.duration) completed so }
+      by (Some m) from known from_start so = absurd (none-some completed so)
+      by None None not_come from_start so = absurd (none-some completed so)
+      by None (Some a) not_come from_start so = record { activated = a; unknown = not_come; active = from_start; later = same_Some (a + lasting.duration) completed so }
 
   pub completion_from : (lasting : Lasting) (activated : ℕ) → moment_of moments lasting.to ≡ None → moment_of moments lasting.from ≡ Some activated
       → completion moments lasting ≡ Some (activated + lasting.duration)
-  completion_from lasting activated unknown begun = by (moment_of moments lasting.to) (moment_of moments lasting.from) unknown begun
+  completion_from lasting activated unknown from_start = by (moment_of moments lasting.to) (moment_of moments lasting.from) unknown from_start
     where
       by : (to from : Option ℕ) → to ≡ None → from ≡ Some activated
           → (elim to [ Some m ↦ None | None ↦ option_map (λ a. a + lasting.duration) from ]) ≡ Some (activated + lasting.duration)
@@ -157,7 +158,8 @@ module _ (moments : Moments) (moment : ℕ) where
       later : Completing others point → Completing (lasting ∷ others) point
       later is = record { lasting = is.lasting; among = Contains-tail lasting others is.lasting is.among; is = is.is; ends = is.ends }
 
-      by : (Contains (completing_at moments moment others) point → Completing others point) → (test : Bool) → completes_at moments moment lasting ≡ test → Contains (kept test lasting (filter (completes_at moments moment) others)) point → Completing (lasting ∷ others) point
+      by : (Contains (completing_at moments moment others) point → Completing others point) → (test : Bool) → completes_at moments moment lasting ≡ test → Contains (kept test lasting (filter (completes_at moments moment) others)) point
+          → Completing (lasting ∷ others) point
       by so_others false not among = later (so_others among)
       by so_others true so among =
           elim (Contains-cases lasting.to (completing_at moments moment others) point among) [

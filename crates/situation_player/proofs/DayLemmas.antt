@@ -1,5 +1,4 @@
--- A day is played out by feeding each next moment with what completes at it: so the execution keeps to the earliest schedule, and where no
--- moment is next it is at its end.
+-- A day is played out by feeding each next moment with what completes at it: so the execution keeps to the earliest schedule, and if no moment is next it is at its end.
 use Rattle.std.proofs.Common.{◌≡◌, ℕ, ℤ, pos, ◌≤ℤ◌, zero, suc, ◌+◌, ◌-◌, ◌<◌, ◌≤◌, ◌^◌, ◌⊎◌, List, [], ◌∷◌, ◌++◌, length, Option, Some, None, inl, inr, refl, ap, sym, subst, ◌∙◌, arith}
 use Rattle.std.specs.Prelude.{slice_get, unsigned_abs, IfSome}
 use Rattle.std.specs.List.{All, Contains, zip}
@@ -17,24 +16,24 @@ use Rattle.closure_model.specs.Tables.{Graph}
 use Rattle.closure_model.proofs.Lists.{Contains-map, Contains-map_from}
 use Rattle.strategy_model.specs.Control.{IsEarliest}
 use Rattle.strategy_model.specs.Situations.{moment_in}
-use Rattle.strategy_model.proofs.CompareLemmas.{completion_follows_activation, duration_of}
+use Rattle.strategy_model.proofs.CompareLemmas.{law_completion_follows_activation, duration_of}
 use Rattle.strategy_model.proofs.KindLemmas.{Ending}
 use Rattle.strategy_model.proofs.PlayLemmas.{link_sound}
 use Rattle.dispatch_net.proofs.ExecutionLemmas.{dispatchable_length}
 use Rattle.net_model.specs.Moments.{Moments, moment_of}
 use Rattle.execution_model.specs.Execution.{Setting, acts_at, acted, time_runs}
-use Rattle.execution_model.specs.Feeding.{Execution, next_moment, IsNextDue}
+use Rattle.execution_model.specs.Feeds.{Execution, next_moment, IsNextDue}
 use Rattle.execution_model.specs.Streams.{Listing}
 use Rattle.execution_model.specs.Laws.{setting_of, IsDispatchedByClosure}
-use Rattle.execution_model.specs.declared.feeding.Why.{Why}
+use Rattle.execution_model.specs.declared.feed_answers.Why.{Why}
 use Rattle.execution_model.proofs.CutLemmas.{IsCut, IsRun, cut_value, not_sooner}
 use Rattle.execution_model.proofs.FittingLemmas.{IsNext, AreNext, end_of, KeepsTo}
 use Rattle.execution_model.proofs.LawLemmas.{run_of}
 use Rattle.execution_model.proofs.MomentLemmas.{no_acts_same, come_not_due, none_due_no_acts}
 use Rattle.execution_model.proofs.PlaceLemmas.{ending_point, contingent_ending, ending_contingent}
 use Rattle.execution_model.proofs.TimeLemmas.{time_cut}
-use Rattle.situation_player.specs.Playing.{IsTimed, IsNextMoment, lasting_in, lastings_of, completion, first_completion, completing_at}
-use Rattle.situation_player.specs.declared.playing.Lasting.{Lasting}
+use Rattle.situation_player.specs.PlayedDays.{IsTimed, IsNextMoment, lasting_in, lastings_of, completion, first_completion, completing_at}
+use Rattle.situation_player.specs.declared.played_day.Lasting.{Lasting}
 use Rattle.situation_player.proofs.CompletionLemmas.{IsBy, sooner_first, sooner_second, sooner_is, first_by, first_is, active_from, completion_from, zipped, zips, completing_is, is_completing, completing_once}
 use Rattle.situation_player.proofs.LateLemmas.{in_good_time}
 
@@ -94,7 +93,7 @@ module _ (net : Plan) (table : Graph) (order : List PointId) (by : IsDispatchedB
         is = refl;
         some = positive_duration link.low d duration same positive low;
         few = small_duration link.high d duration same high small;
-        lasting_in_it = completion_follows_activation net earliest.strategy situation schedule name link duration by.instant earliest.played declared its;
+        lasting_in_it = law_completion_follows_activation net earliest.strategy situation schedule name link duration by.instant earliest.played declared its;
       }
     where
       positive_duration : (low : ℤ) (d duration : ℕ) → d ≡ duration → pos 1 ≤ℤ low → low ≤ℤ pos d → 1 ≤ duration
@@ -137,7 +136,7 @@ module _ (net : Plan) (table : Graph) (order : List PointId) (by : IsDispatchedB
         ends = ending.ends;
       }
 
-  -- it can be told when each link completes
+  -- it is known when each link completes
   pub timed : (execution : Execution) → KeepsTo net table schedule execution → All (IsTimed (length net.points) execution.moments) lastings
   timed execution keeps =
       All-weaker (Contains lastings) (IsTimed (length net.points) execution.moments) (λ lasting among.
@@ -180,12 +179,12 @@ module _ (net : Plan) (table : Graph) (order : List PointId) (by : IsDispatchedB
           let some = so.some in
           let lasts = lasts_in_it lasting so in
           let at : moment_in schedule lasting.to ≡ moment_in schedule point = ap (moment_in schedule) its.ends in
-          let begun : moment_in schedule lasting.from < from = (elim (cases_lt (moment_in schedule lasting.from) from) [
+          let from_start : moment_in schedule lasting.from < from = (elim (cases_lt (moment_in schedule lasting.from) from) [
             | inl less ↦ less
             | inr after ↦ absurd (none_sooner lasting.from (from_point lasting so) after (omega (arith, lasts, at, some, below)))
           ]) in
           let unknown : moment_of moments lasting.to ≡ None = keeps.cut.unknown lasting.to (to_point lasting so) (omega (arith, at, above)) in
-          let known : moment_of moments lasting.from ≡ Some (moment_in schedule lasting.from) = keeps.cut.known lasting.from (from_point lasting so) begun in
+          let known : moment_of moments lasting.from ≡ Some (moment_in schedule lasting.from) = keeps.cut.known lasting.from (from_point lasting so) from_start in
           let low = first_by moments lastings lasting (moment_in schedule lasting.from + lasting.duration) its.among (completion_from moments lasting (moment_in schedule lasting.from) unknown known) in
           not_by (subst (λ (o : Option ℕ). IsBy o t) (sym is.2) (sooner_second is.0 (first_completion moments lastings) t
           (by_later (first_completion moments lastings) (moment_in schedule lasting.from + lasting.duration) t low (omega (arith, lasts, at, below)))))
@@ -243,8 +242,8 @@ module _ (net : Plan) (table : Graph) (order : List PointId) (by : IsDispatchedB
           let its = active_from moments lasting m completes in
           let lasts = lasts_in_it lasting so in
           let after = its.later in
-          let begun = (cut_value net schedule moments from keeps.cut lasting.from its.activated (from_point lasting so) its.active).0 in
-          (not_sooner net schedule moments from keeps.cut lasting.to (to_point lasting so) its.unknown, omega (arith, lasts, after, begun))
+          let from_start = (cut_value net schedule moments from keeps.cut lasting.from its.activated (from_point lasting so) its.active).0 in
+          (not_sooner net schedule moments from keeps.cut lasting.to (to_point lasting so) its.unknown, omega (arith, lasts, after, from_start))
 
       comes_later : from ≤ m
       comes_later =
@@ -285,12 +284,12 @@ module _ (net : Plan) (table : Graph) (order : List PointId) (by : IsDispatchedB
               let lasts = lasts_in_it lasting so in
               let at : moment_in schedule lasting.to ≡ moment_in schedule point = ap (moment_in schedule) its.ends in
               let least = at_or_after point (ending_point net run.plan point ending) above in
-              let begun : moment_in schedule lasting.from < from = (elim (cases_lt (moment_in schedule lasting.from) from) [
+              let from_start : moment_in schedule lasting.from < from = (elim (cases_lt (moment_in schedule lasting.from) from) [
                 | inl less ↦ less
                 | inr after ↦ (let least_from = at_or_after lasting.from (from_point lasting so) after in absurd (omega (arith, least_from, lasts, at, some, below)))
               ]) in
               let unknown : moment_of moments lasting.to ≡ None = keeps.cut.unknown lasting.to (to_point lasting so) (omega (arith, at, above)) in
-              let known : moment_of moments lasting.from ≡ Some (moment_in schedule lasting.from) = keeps.cut.known lasting.from (from_point lasting so) begun in
+              let known : moment_of moments lasting.from ≡ Some (moment_in schedule lasting.from) = keeps.cut.known lasting.from (from_point lasting so) from_start in
               let completes : completion moments lasting ≡ Some m =
               completion_from moments lasting (moment_in schedule lasting.from) unknown known ∙ ap Some (omega (arith, lasts, at, below, least)) in
               subst (λ (p : PointId). Contains (completing_at moments m lastings) p) its.ends (is_completing moments m lastings lasting its.among completes)
@@ -327,7 +326,7 @@ module _ (net : Plan) (table : Graph) (order : List PointId) (by : IsDispatchedB
                     omega (arith, above, gone))
               ]
 
-    -- where there is none, every point has come
+    -- if there is none, every point has come
     pub all_before : next ≡ None → (point : PointId) → IsPoint net point → moment_in schedule point < from
     all_before none point inside =
         elim (cases_lt (moment_in schedule point) from) [

@@ -1,4 +1,4 @@
--- An execution that follows a situation: at its start, after a feed, and where no moment is next.
+-- An execution that follows a situation: at its start, after a feed, and when no moment is next.
 use Rattle.std.proofs.Common.{◌≡◌, ℕ, ◌+◌, ◌<◌, ◌≤◌, List, [], ◌∷◌, ◌++◌, length, map, get_or, drop, Option, Some, None, Result, Ok, Err, refl, ap, sym, subst, ◌∙◌, arith}
 use Rattle.std.specs.Prelude.{IsSome, IfOk}
 use Rattle.std.specs.List.{All, Contains}
@@ -8,35 +8,35 @@ use Rattle.std.proofs.lemmas.Option.{same_Some}
 use Rattle.net_model.specs.Network.{Plan}
 use Rattle.net_model.specs.declared.ids.PointId.{PointId}
 use Rattle.closure_model.specs.Tables.{IsClosed}
-use Rattle.closure_model.proofs.LawProofs.{closure_is_closed}
+use Rattle.closure_model.proofs.LawProofs.{law_closure_is_closed}
 use Rattle.strategy_model.specs.Control.{IsEarliest}
 use Rattle.strategy_model.specs.Situations.{IsSituation}
-use Rattle.dispatch_net.proofs.EarliestLemmas.{closures_execute_earliest}
-use Rattle.dispatch_net.proofs.ExecutionLemmas.{dispatchable_length, executions_satisfy}
+use Rattle.dispatch_net.proofs.EarliestLemmas.{law_closures_execute_earliest}
+use Rattle.dispatch_net.proofs.ExecutionLemmas.{dispatchable_length, law_executions_satisfy}
 use Rattle.net_model.specs.Moments.{Moments}
 use Rattle.execution_model.specs.Execution.{Setting}
 use Rattle.net_model.specs.Limits.{most_moment}
-use Rattle.execution_model.specs.Feeding.{Execution, started, next_moment, taken, after_feed, first_open, IsFed, IsWhole, IsFinished}
+use Rattle.execution_model.specs.Feeds.{Execution, started, next_moment, taken, after_feed, first_open, IsFed, IsWhole, IsFinished}
 use Rattle.execution_model.specs.Streams.{Listing, Shows}
 use Rattle.execution_model.specs.Timely.{fed_all, with_completed, IsInTime}
 use Rattle.execution_model.specs.Earliest.{EndsEarliest}
 use Rattle.execution_model.specs.Laws.{setting_of, IsExecutionOf, ended}
-use Rattle.execution_model.specs.declared.feeding.Why.{Why}
-use Rattle.execution_model.specs.declared.feeding.Fed.{Fed}
-use Rattle.execution_model.specs.declared.feeding.Fed.TheVariants as fed
-use Rattle.execution_model.specs.declared.feeding.Finished.{Finished}
-use Rattle.execution_model.specs.declared.feeding.Finished.TheVariants as finished
+use Rattle.execution_model.specs.declared.feed_answers.Why.{Why}
+use Rattle.execution_model.specs.declared.feed_answers.Fed.{Fed}
+use Rattle.execution_model.specs.declared.feed_answers.Fed.TheVariants as fed
+use Rattle.execution_model.specs.declared.feed_answers.Finished.{Finished}
+use Rattle.execution_model.specs.declared.feed_answers.Finished.TheVariants as finished
 use Rattle.execution_model.proofs.CutLemmas.{IsRun}
 use Rattle.execution_model.proofs.EarliestLemmas.{refused_after}
 use Rattle.execution_model.proofs.FedLemmas.{fed_on, started_of, same_ok, err_ok, fed_in_time}
 use Rattle.execution_model.proofs.FittingLemmas.{IsNext, end_of, KeepsTo, feeds_in_time}
-use Rattle.execution_model.proofs.GraphLemmas.{closures_are_graphs}
+use Rattle.execution_model.proofs.GraphLemmas.{law_closures_are_graphs}
 use Rattle.execution_model.proofs.LawLemmas.{run_of, fed_keeps, fed_end}
 use Rattle.execution_model.proofs.StreamLemmas.{shows_next, next_shows, shows_done, listed_before_end}
 use Rattle.execution_model.proofs.TimelyLemmas.{taken_in_time}
 use Rattle.execution_model.proofs.PlaceLemmas.{contingent_ending, ending_point}
-use Rattle.situation_player.specs.Playing.{IsStartedByClosure, FollowsSituation, IsTimed, IsNextMoment, lastings_of, completing_at}
-use Rattle.situation_player.specs.declared.playing.Lasting.{Lasting}
+use Rattle.situation_player.specs.PlayedDays.{IsStartedByClosure, FollowsSituation, IsTimed, IsNextMoment, lastings_of, completing_at}
+use Rattle.situation_player.specs.declared.played_day.Lasting.{Lasting}
 use Rattle.situation_player.proofs.CompletionLemmas.{completing_is}
 use Rattle.situation_player.proofs.DayLemmas.{next_one, is_next, within_limit, all_before, timed}
 
@@ -75,17 +75,17 @@ setting_stays execution answer after is_finished = stays execution answer after 
 pub following_start : (net : Plan) (situation : List ℕ) (execution : Execution) → IsStartedByClosure net execution → IsSituation net situation → FollowsSituation net situation execution
 following_start net situation execution is fits =
     let by = is.by_closure in
-    let graph = closures_are_graphs net is.table by.instant.sound by.closure in
-    let closed : IsClosed net is.table = (closure_is_closed net is.table by.closure).0 in
-    let (schedule, executed) = (executions_satisfy net is.table is.order by.instant by.closure.for_network graph closed by.ordered).executed situation fits in
+    let graph = law_closures_are_graphs net is.table by.instant.sound by.closure in
+    let closed : IsClosed net is.table = (law_closure_is_closed net is.table by.closure).0 in
+    let (schedule, executed) = (law_executions_satisfy net is.table is.order by.instant by.closure.for_network graph closed by.ordered).executed situation fits in
     record {
       table = is.table;
       order = is.order;
       by_closure = by;
       schedule = schedule;
-      earliest = (closures_execute_earliest net is.table is.order situation schedule by.instant by.closure graph by.ordered fits).1 executed;
+      earliest = (law_closures_execute_earliest net is.table is.order situation schedule by.instant by.closure graph by.ordered fits).1 executed;
       listings = [];
-      fed = ap Ok (sym is.fresh);
+      fed = ap Ok (sym is.unused);
       shows = next_shows net schedule [] tt;
     }
 
@@ -200,7 +200,7 @@ module _ (net : Plan) (situation : List ℕ) (execution : Execution) (is : Follo
             ap next_moment same,
           )
 
-    -- where no moment is next, the end makes the whole of the earliest schedule
+    -- if no moment is next, the end makes the whole of the earliest schedule
     pub following_ended : next ≡ None → (answer : Finished) (after : Execution) → EndsEarliest execution answer after → after.moments ≡ map Some is.schedule
     following_ended none answer after ends =
         let before = all_before net is.table is.order is.by_closure situation is.schedule is.earliest execution keeps unrefused next is_next_moment none in
@@ -213,7 +213,7 @@ module _ (net : Plan) (situation : List ℕ) (execution : Execution) (is : Follo
         let (count, all, kept) = law.keeps complete situation is.schedule is.earliest shows in
         kept.moments
 
--- ---- what the code of a day hands over
+-- ---- what the code of a day gives
 module _ (net : Plan) (situation : List ℕ) (execution : Execution) (is : FollowsSituation net situation execution) (shown : List Lasting) (all : shown ≡ lastings_of net.links situation)
     (next : Option ℕ) (is_next_moment : IsNextMoment execution shown next) where
   next_of_all : IsNextMoment execution (lastings_of net.links situation) next

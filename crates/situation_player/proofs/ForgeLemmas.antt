@@ -1,5 +1,6 @@
 -- The parts of a forged network build it: none is refused.
-use Rattle.std.proofs.Common.{◌≡◌, ◌≢◌, ℕ, ℤ, pos, zero, suc, ◌+◌, ◌-◌, ◌*◌, ◌-ℤ◌, ◌^◌, ◌<◌, ◌≤◌, ◌≤ℤ◌, ◌==◌, ◌||◌, true, false, List, [], ◌∷◌, ◌++◌, length, map, take, get_or, sum, position, nat_le, int_lt, Some, None, Result, Ok, Err, inl, inr, refl, ap, sym, subst, ◌∙◌, arith, rules, append_assoc, length-append}
+use Rattle.std.proofs.Common.{◌≡◌, ◌≢◌, ℕ, ℤ, pos, zero, suc, ◌+◌, ◌-◌, ◌*◌, ◌-ℤ◌, ◌^◌, ◌<◌, ◌≤◌, ◌≤ℤ◌, ◌==◌, ◌||◌, true, false, List, [], ◌∷◌, ◌++◌, length, map, take, get_or, sum, position, nat_le, int_lt, Some, None, Result, Ok, Err}
+use Rattle.std.proofs.Common.{inl, inr, refl, ap, sym, subst, ◌∙◌, arith, rules, append_assoc, length-append}
 use Rattle.std.specs.Prelude.{codes, unsigned_abs, IsOk}
 use Rattle.std.specs.List.{All, Contains, position_or_len}
 use Rattle.std.specs.Fmt.{decimal}
@@ -13,7 +14,7 @@ use Rattle.std.proofs.lemmas.List.Sums.{position_or_len_is, sum_by-le}
 use Rattle.closure_model.proofs.Lists.{Contains-head, Contains-tail}
 use Rattle.net_model.specs.Limits.{most_points, most_bounds, most_links, most_number, within_limit}
 use Rattle.net_model.specs.Network.{Plan, empty}
-use Rattle.net_model.specs.Building.{named, with_point, with_bound, with_link, with_part, with_parts, at_place, built}
+use Rattle.net_model.specs.BuiltNetwork.{named, with_point, with_bound, with_link, with_part, with_parts, at_place, built}
 use Rattle.net_model.specs.declared.fault.BuildFault.{BuildFault}
 use Rattle.net_model.specs.declared.part.Bound.{Bound}
 use Rattle.net_model.specs.declared.part.Link.{Link}
@@ -98,13 +99,13 @@ place_of first names name are (k, inside, at) =
 abbrev only : List (List ℕ) → Plan
 only points = record { points = points; bounds = []; links = []; delay = 0 }
 
-fresh_point : (names : List (List ℕ)) (name : List ℕ) → All (λ n. point_rank n < point_rank name) names → position (bytes_eq name) names ≡ None
-fresh_point names name all = None_from_fails (bytes_eq name) names (λ k d inside. ranks_differ point_rank (get_or names k d) name (all k d inside))
+new_point : (names : List (List ℕ)) (name : List ℕ) → All (λ n. point_rank n < point_rank name) names → position (bytes_eq name) names ≡ None
+new_point names name all = None_from_fails (bytes_eq name) names (λ k d inside. ranks_differ point_rank (get_or names k d) name (all k d inside))
 
 point_taken : (done : List (List ℕ)) (name : List ℕ) → All (λ n. point_rank n < point_rank name) done → length done < most_points
     → with_point (only done) name ≡ Ok (only (done ++ name ∷ []))
 unfolding with_point
-point_taken done name all few = let room : nat_le most_points (length done) ≡ false = lt-leb most_points (length done) few in rw (fresh_point done name all, room) refl
+point_taken done name all few = let spare_capacity : nat_le most_points (length done) ≡ false = lt-leb most_points (length done) few in rw (new_point done name all, spare_capacity) refl
 
 points_taken : (done rest : List (List ℕ)) (first : ℕ) → All (λ n. point_rank n < first) done → AreRanked first rest → length done + length rest ≤ most_points
     → Takes (only done) (map part.Point rest) (only (done ++ rest))
@@ -225,16 +226,16 @@ module _ (points : List (List ℕ)) (ranked : AreRanked 3 points) where
         more : Plan
         more = record net { bounds = net.bounds ++ bound ∷ [] }
 
-        fresh : position (λ (o : Bound). bytes_eq name o.name) net.bounds ≡ None
-        fresh =
+        unused : position (λ (o : Bound). bytes_eq name o.name) net.bounds ≡ None
+        unused =
             None_from_fails (λ (o : Bound). bytes_eq name o.name) net.bounds
             (λ k e inside. let less = grown.bounds_below k e inside in ranks_differ bound_rank (get_or net.bounds k e).name name (omega (arith, less, above)))
 
-        room : nat_le most_bounds (length net.bounds) ≡ false
-        room = lt-leb most_bounds (length net.bounds) (let count = grown.bound_count in omega (arith, few, count))
+        spare_capacity : nat_le most_bounds (length net.bounds) ≡ false
+        spare_capacity = lt-leb most_bounds (length net.bounds) (let count = grown.bound_count in omega (arith, few, count))
 
         taken : with_part net (part.Bound name from to most) ≡ Ok more
-        taken = rw (fresh, x.is, y.is, small, room) refl
+        taken = rw (unused, x.is, y.is, small, spare_capacity) refl
 
         grows : Grown points (suc (bound_rank name)) l (suc n) m more
         grows = record {
@@ -272,19 +273,19 @@ module _ (points : List (List ℕ)) (ranked : AreRanked 3 points) where
         not_itself : (x.place == y.place) ≡ false
         not_itself = ne_eqb x.place y.place (λ same. let first = x.rank in let second = y.rank in apart (omega (arith, first, second, same)))
 
-        fresh : position (λ (o : Link). o.to.0 == y.place) net.links ≡ None
-        fresh =
+        unused : position (λ (o : Link). o.to.0 == y.place) net.links ≡ None
+        unused =
             None_from_fails (λ (o : Link). o.to.0 == y.place) net.links
             (λ k e inside. let less = grown.links_below k e inside in let rank = y.rank in ne_eqb (get_or net.links k e).to.0 y.place (λ same. omega (arith, less, rank, same, above)))
 
         good : (int_lt low (pos 1) || int_lt high low) ≡ false
         good = good_interval low high positive interval
 
-        room : nat_le most_links (length net.links) ≡ false
-        room = lt-leb most_links (length net.links) (let count = grown.link_count in omega (arith, few, count))
+        spare_capacity : nat_le most_links (length net.links) ≡ false
+        spare_capacity = lt-leb most_links (length net.links) (let count = grown.link_count in omega (arith, few, count))
 
         taken : with_part net (part.Link from low high to) ≡ Ok more
-        taken = rw (x.is, y.is, not_itself, fresh, good, small, room) refl
+        taken = rw (x.is, y.is, not_itself, unused, good, small, spare_capacity) refl
 
         grows : Grown points b (suc (point_rank to)) n (suc m) more
         grows = record {
@@ -342,7 +343,8 @@ module _ (points : List (List ℕ)) (ranked : AreRanked 3 points) where
         bound_grown early_bound (suc (bound_rank (codes "v" ++ decimal i))) (suc (point_rank (end_name i))) (suc n) (suc m) grown_2 (codes "u" ++ decimal i) (end_name i) (watch_name i) (pos task.late)
         its.end its.watch (omega (arith, v, u)) (fits task.late (omega (arith, late))) (omega (arith, few_bounds)) [] (2 * (i + 1)) (3 * (i + 1) + 1) (n + 2) (m + 1)
         (λ late_bound grown_3. nothing late_bound (2 * (i + 1)) (3 * (i + 1) + 1) (n + 2) (m + 1)
-        (counted (2 * (i + 1)) (3 * (i + 1) + 1) (suc (suc n)) (n + 2) (suc m) (m + 1) late_bound (omega arith) (omega arith) (higher points (suc (bound_rank (codes "u" ++ decimal i))) (suc (point_rank (end_name i))) (2 * (i + 1)) (3 * (i + 1) + 1) (suc (suc n)) (suc m) late_bound
+        (counted (2 * (i + 1)) (3 * (i + 1) + 1) (suc (suc n)) (n + 2) (suc m) (m + 1) late_bound (omega arith) (omega arith)
+        (higher points (suc (bound_rank (codes "u" ++ decimal i))) (suc (point_rank (end_name i))) (2 * (i + 1)) (3 * (i + 1) + 1) (suc (suc n)) (suc m) late_bound
         (omega (arith, u)) (omega (arith, second)) grown_3)))))
 
     after_parts : (first second : List Part) (b l n m c d i j : ℕ) (net : Plan) → (here : IsGrown points b l n m net first)
@@ -417,8 +419,8 @@ module _ (tasks : List Task) (cut : ℕ) (some : 1 ≤ length tasks) (few : leng
   abbrev names : List (List ℕ)
   names = names_from 1 count
 
-  abbrev front : List Task
-  front = take (count - 1) tasks
+  abbrev prefix : List Task
+  prefix = take (count - 1) tasks
 
   ranked : AreRanked 3 names
   ranked = names_ranked 1 count (omega (arith, few))
@@ -426,8 +428,8 @@ module _ (tasks : List Task) (cut : ℕ) (some : 1 ≤ length tasks) (few : leng
   has : (i : ℕ) → 1 ≤ i → i < 1 + count → HasTask names i
   has i above below = has_task 1 count i above below
 
-  front_count : length front ≡ count - 1
-  front_count = length-take-le (count - 1) tasks (omega arith)
+  prefix_length : length prefix ≡ count - 1
+  prefix_length = length-take-le (count - 1) tasks (omega arith)
 
   points_first : Takes empty (map part.Point names) (only names)
   points_first = points_taken [] names 3 (All-nil (λ n. point_rank n < 3)) ranked (let size = names_count 1 count in omega (arith, size, few))
@@ -445,30 +447,30 @@ module _ (tasks : List Task) (cut : ℕ) (some : 1 ≤ length tasks) (few : leng
   by_tasks = tasks_grown names ranked count (omega (arith, few)) has tasks 1 (only names) 0 0 (omega arith) (omega arith) small (omega (arith, few)) (omega (arith, few)) at_points
 
   by_nexts : (net : Plan) → Grown names (2 * (1 + count)) (3 * (1 + count) + 1) (0 + 2 * count) (0 + count) net
-      → IsGrown names (1000 + 2 * (1 + length front)) (3 * (1 + count) + 1) (0 + 2 * count + 2 * length front) (0 + count) net (parts_from next_parts 1 front)
+      → IsGrown names (1000 + 2 * (1 + length prefix)) (3 * (1 + count) + 1) (0 + 2 * count + 2 * length prefix) (0 + count) net (parts_from next_parts 1 prefix)
   by_nexts net grown =
-      nexts_grown names ranked count (omega (arith, few)) has front 1 net (3 * (1 + count) + 1) (0 + 2 * count) (0 + count) (omega arith) (omega (arith, front_count, some))
-      (All-take IsSmall (count - 1) tasks small) (omega (arith, front_count, few))
+      nexts_grown names ranked count (omega (arith, few)) has prefix 1 net (3 * (1 + count) + 1) (0 + 2 * count) (0 + count) (omega arith) (omega (arith, prefix_length, some))
+      (All-take IsSmall (count - 1) tasks small) (omega (arith, prefix_length, few))
       (higher names (2 * (1 + count)) (3 * (1 + count) + 1) (1000 + 2 * 1) (3 * (1 + count) + 1) (0 + 2 * count) (0 + count) net (omega (arith, few)) (omega arith) grown)
 
-  by_deadline : (net : Plan) → Grown names (1000 + 2 * (1 + length front)) (3 * (1 + count) + 1) (0 + 2 * count + 2 * length front) (0 + count) net
-      → IsGrown names 2001 (3 * (1 + count) + 1) (suc (0 + 2 * count + 2 * length front)) (0 + count) net (deadline_part tasks cut ∷ [])
+  by_deadline : (net : Plan) → Grown names (1000 + 2 * (1 + length prefix)) (3 * (1 + count) + 1) (0 + 2 * count + 2 * length prefix) (0 + count) net
+      → IsGrown names 2001 (3 * (1 + count) + 1) (suc (0 + 2 * count + 2 * length prefix)) (0 + count) net (deadline_part tasks cut ∷ [])
   by_deadline net grown =
       let total = small_sum tasks small in
-      bound_grown names ranked net (1000 + 2 * (1 + length front)) (3 * (1 + count) + 1) (0 + 2 * count + 2 * length front) (0 + count) grown (codes "dl") (start_name 1) (end_name count)
-      (pos (sum (map (λ (task : Task). task.high) tasks)) -ℤ pos cut) (has 1 (omega arith) (omega (arith, some))).start (has count some (omega arith)).end (omega (arith, front_count, few))
-      (deadline_fits (sum (map (λ (task : Task). task.high) tasks)) cut (omega (arith, total, few)) low) (omega (arith, front_count, few)) []
-      2001 (3 * (1 + count) + 1) (suc (0 + 2 * count + 2 * length front)) (0 + count)
-      (λ more grown_1. nothing names ranked more 2001 (3 * (1 + count) + 1) (suc (0 + 2 * count + 2 * length front)) (0 + count) grown_1)
+      bound_grown names ranked net (1000 + 2 * (1 + length prefix)) (3 * (1 + count) + 1) (0 + 2 * count + 2 * length prefix) (0 + count) grown (codes "dl") (start_name 1) (end_name count)
+      (pos (sum (map (λ (task : Task). task.high) tasks)) -ℤ pos cut) (has 1 (omega arith) (omega (arith, some))).start (has count some (omega arith)).end (omega (arith, prefix_length, few))
+      (deadline_fits (sum (map (λ (task : Task). task.high) tasks)) cut (omega (arith, total, few)) low) (omega (arith, prefix_length, few)) []
+      2001 (3 * (1 + count) + 1) (suc (0 + 2 * count + 2 * length prefix)) (0 + count)
+      (λ more grown_1. nothing names ranked more 2001 (3 * (1 + count) + 1) (suc (0 + 2 * count + 2 * length prefix)) (0 + count) grown_1)
 
-  by_all : IsGrown names 2001 (3 * (1 + count) + 1) (suc (0 + 2 * count + 2 * length front)) (0 + count) (only names)
-      (parts_from task_parts 1 tasks ++ (parts_from next_parts 1 front ++ deadline_part tasks cut ∷ []))
+  by_all : IsGrown names 2001 (3 * (1 + count) + 1) (suc (0 + 2 * count + 2 * length prefix)) (0 + count) (only names)
+      (parts_from task_parts 1 tasks ++ (parts_from next_parts 1 prefix ++ deadline_part tasks cut ∷ []))
   by_all =
-      after_parts names ranked count (omega (arith, few)) has (parts_from task_parts 1 tasks) (parts_from next_parts 1 front ++ deadline_part tasks cut ∷ []) (2 * (1 + count)) (3 * (1 + count) + 1)
-      (0 + 2 * count) (0 + count) 2001 (3 * (1 + count) + 1) (suc (0 + 2 * count + 2 * length front)) (0 + count) (only names) by_tasks
+      after_parts names ranked count (omega (arith, few)) has (parts_from task_parts 1 tasks) (parts_from next_parts 1 prefix ++ deadline_part tasks cut ∷ []) (2 * (1 + count)) (3 * (1 + count) + 1)
+      (0 + 2 * count) (0 + count) 2001 (3 * (1 + count) + 1) (suc (0 + 2 * count + 2 * length prefix)) (0 + count) (only names) by_tasks
       (λ middle grown.
-      after_parts names ranked count (omega (arith, few)) has (parts_from next_parts 1 front) (deadline_part tasks cut ∷ []) (1000 + 2 * (1 + length front)) (3 * (1 + count) + 1)
-      (0 + 2 * count + 2 * length front) (0 + count) 2001 (3 * (1 + count) + 1) (suc (0 + 2 * count + 2 * length front)) (0 + count) middle (by_nexts middle grown) by_deadline)
+      after_parts names ranked count (omega (arith, few)) has (parts_from next_parts 1 prefix) (deadline_part tasks cut ∷ []) (1000 + 2 * (1 + length prefix)) (3 * (1 + count) + 1)
+      (0 + 2 * count + 2 * length prefix) (0 + count) 2001 (3 * (1 + count) + 1) (suc (0 + 2 * count + 2 * length prefix)) (0 + count) middle (by_nexts middle grown) by_deadline)
 
   pub forged : IsForged count (parts_of_tasks tasks cut)
   forged =
@@ -476,11 +478,11 @@ module _ (tasks : List Task) (cut : ℕ) (some : 1 ≤ length tasks) (few : leng
       record {
         net = by_all.after;
         built_so =
-            subst (λ (ps : List Part). with_parts 0 empty (ps ++ (parts_from task_parts 1 tasks ++ (parts_from next_parts 1 front ++ deadline_part tasks cut ∷ []))) ≡ Ok by_all.after) (sym (points_are 1 tasks))
-            (takes_append (map part.Point names) (parts_from task_parts 1 tasks ++ (parts_from next_parts 1 front ++ deadline_part tasks cut ∷ [])) empty (only names) by_all.after points_first by_all.takes 0);
+            subst (λ (ps : List Part). with_parts 0 empty (ps ++ (parts_from task_parts 1 tasks ++ (parts_from next_parts 1 prefix ++ deadline_part tasks cut ∷ []))) ≡ Ok by_all.after) (sym (points_are 1 tasks))
+            (takes_append (map part.Point names) (parts_from task_parts 1 tasks ++ (parts_from next_parts 1 prefix ++ deadline_part tasks cut ∷ [])) empty (only names) by_all.after points_first by_all.takes 0);
         points = ap (length {A = List ℕ}) grown.points_are ∙ names_count 1 count;
         links = grown.link_count ∙ omega arith;
-        bounds = (let bounds = grown.bound_count in omega (arith, bounds, front_count, some));
+        bounds = (let bounds = grown.bound_count in omega (arith, bounds, prefix_length, some));
       }
 
 -- the parts of tasks are few
@@ -488,16 +490,16 @@ parts_few : (tasks : List Task) (cut : ℕ) → length tasks ≤ most_tasks → 
 parts_few tasks cut few =
     let first = count_of (λ i task. task_points i) 3 (λ i task. refl) 1 tasks in
     let second = count_of task_parts 3 (λ i task. refl) 1 tasks in
-    let front : List Task = take (length tasks - 1) tasks in
-    let third = count_of next_parts 2 (λ i task. refl) 1 front in
+    let prefix : List Task = take (length tasks - 1) tasks in
+    let third = count_of next_parts 2 (λ i task. refl) 1 prefix in
     let shorter = length-take-le (length tasks - 1) tasks (omega arith) in
     let last : List Part = deadline_part tasks cut ∷ [] in
-    let some = length-append (parts_from (λ i task. task_points i) 1 tasks) (parts_from task_parts 1 tasks ++ (parts_from next_parts 1 front ++ last)) in
-    let more = length-append (parts_from task_parts 1 tasks) (parts_from next_parts 1 front ++ last) in
-    let most = length-append (parts_from next_parts 1 front) last in
+    let some = length-append (parts_from (λ i task. task_points i) 1 tasks) (parts_from task_parts 1 tasks ++ (parts_from next_parts 1 prefix ++ last)) in
+    let more = length-append (parts_from task_parts 1 tasks) (parts_from next_parts 1 prefix ++ last) in
+    let most = length-append (parts_from next_parts 1 prefix) last in
     omega (arith, first, second, third, shorter, some, more, most, few)
 
--- ---- what is forged out of a number
+-- ---- what is forged from a number
 pub forged_parts_build : (start count : ℕ) → 1 ≤ count → count ≤ most_tasks → IsOk (built (forged_parts start count)) × (length (forged_parts start count) < 2 ^ 32)
 forged_parts_build start count some few =
     let size = tasks_count start count in
@@ -510,8 +512,8 @@ forged_parts_build start count some few =
 pub forged_parts_are : (number count start : ℕ) → start ≡ number → (drawn_tasks shown : List Task) → drawn_tasks ≡ tasks_drawn start count → shown ≡ drawn_tasks
     → (state cut : ℕ) → state ≡ state_after start (5 * count) → cut ≡ drawn (next_state state) 2 → (made parts : List Part) → made ≡ parts_of_tasks shown cut → parts ≡ made
     → parts ≡ forged_parts number count
-forged_parts_are number count start begun drawn_tasks shown tasks_are same state cut state_is cut_drawn_so made parts made_so parts_are =
-    let all : shown ≡ tasks_drawn number count = same ∙ tasks_are ∙ ap (λ (s : ℕ). tasks_drawn s count) begun in
+forged_parts_are number count start from_start drawn_tasks shown tasks_are same state cut state_is cut_drawn_so made parts made_so parts_are =
+    let all : shown ≡ tasks_drawn number count = same ∙ tasks_are ∙ ap (λ (s : ℕ). tasks_drawn s count) from_start in
     let last : cut ≡ cut_drawn number count =
-    cut_drawn_so ∙ ap (λ (s : ℕ). drawn (next_state s) 2) state_is ∙ cut_is start count ∙ ap (λ (s : ℕ). cut_drawn s count) begun in
+    cut_drawn_so ∙ ap (λ (s : ℕ). drawn (next_state s) 2) state_is ∙ cut_is start count ∙ ap (λ (s : ℕ). cut_drawn s count) from_start in
     parts_are ∙ made_so ∙ ap (λ (ts : List Task). parts_of_tasks ts cut) all ∙ ap (parts_of_tasks (tasks_drawn number count)) last

@@ -21,11 +21,11 @@ use Rattle.strategy_model.specs.Situations.{moment_in}
 use Rattle.strategy_model.proofs.KindLemmas.{Ending, kind}
 use Rattle.strategy_model.proofs.PlayLemmas.{link_sound}
 use Rattle.dispatch_net.specs.Dispatchable.{dispatchable, conditions_at}
-use Rattle.dispatch_net.specs.Execution.{IsFirst, bound_asks, wait_asks, asked_by}
+use Rattle.dispatch_net.specs.Execution.{IsFirstNotBefore, required_by_bound, required_by_wait, required_moments}
 use Rattle.dispatch_net.specs.Laws.{AreExact}
 use Rattle.dispatch_net.specs.declared.dispatch.Conditions.{Conditions}
-use Rattle.dispatch_net.proofs.EarliestLemmas.{closures_may_dispatch}
-use Rattle.dispatch_net.proofs.ExactLemmas.{lists_are_exact}
+use Rattle.dispatch_net.proofs.EarliestLemmas.{law_closures_may_dispatch}
+use Rattle.dispatch_net.proofs.ExactLemmas.{law_lists_are_exact}
 use Rattle.dispatch_net.proofs.ExecutionLemmas.{point_count}
 use Rattle.execution_model.specs.Laws.{IsDispatchedByClosure}
 use Rattle.execution_model.proofs.CutLemmas.{IsRun, lasts}
@@ -55,7 +55,7 @@ below_grows : (t u : ℕ) (moments : List ℕ) → t ≤ u → below t moments �
 below_grows t u [] later = omega arith
 below_grows t u (m ∷ moments) later = omega (arith, below_each m t u later, below_grows t u moments later)
 
--- where one of them lies between, there is one more
+-- if one of them lies between, there is one more
 below_more : (t u : ℕ) (moments : List ℕ) (k : ℕ) → k < length moments → t ≤ get_or moments k 0 → get_or moments k 0 < u → below t moments + 1 ≤ below u moments
 below_more t u [] k inside above less = absurd (omega (arith, inside))
 below_more t u (m ∷ moments) zero inside above less =
@@ -64,25 +64,25 @@ below_more t u (m ∷ moments) zero inside above less =
 below_more t u (m ∷ moments) (suc k) inside above less =
     omega (arith, below_each m t u (omega (arith, above, less)), below_more t u moments k (omega (arith, inside)) above less)
 
--- ---- the first moment that is before none of some is one of them, where it is not 0
-one_or_less : (asked : List ℕ) (moment : ℕ) → All (λ m. m ≤ suc moment) asked → All (λ m. m ≤ moment) asked ⊎ Contains asked (suc moment)
+-- ---- the first moment that is before none of some is one of them, if it is not 0
+one_or_less : (required : List ℕ) (moment : ℕ) → All (λ m. m ≤ suc moment) required → All (λ m. m ≤ moment) required ⊎ Contains required (suc moment)
 one_or_less [] moment all = inl (All-nil (λ m. m ≤ moment))
-one_or_less (m ∷ asked) moment all =
+one_or_less (m ∷ required) moment all =
     elim (cases_lt moment m) [
       | inl above ↦
-          (let low : m ≤ suc moment = All-head (λ m. m ≤ suc moment) m asked all in
+          (let low : m ≤ suc moment = All-head (λ m. m ≤ suc moment) m required all in
           let same : m ≡ suc moment = omega (arith, above, low) in
-          inr (subst (λ (n : ℕ). Contains (m ∷ asked) n) same (Contains-head m asked)))
-      | inr low ↦ elim (one_or_less asked moment (All-tail (λ m. m ≤ suc moment) m asked all)) [
-        | inl rest ↦ inl (All-cons (λ m. m ≤ moment) m asked low rest)
-        | inr later ↦ inr (Contains-tail m asked (suc moment) later)
+          inr (subst (λ (n : ℕ). Contains (m ∷ required) n) same (Contains-head m required)))
+      | inr low ↦ elim (one_or_less required moment (All-tail (λ m. m ≤ suc moment) m required all)) [
+        | inl rest ↦ inl (All-cons (λ m. m ≤ moment) m required low rest)
+        | inr later ↦ inr (Contains-tail m required (suc moment) later)
       ]
     ]
 
-first_is_asked : (asked : List ℕ) (moment : ℕ) → IsFirst asked moment → 0 < moment → Contains asked moment
-first_is_asked asked zero first some = absurd (omega (arith, some))
-first_is_asked asked (suc moment) first some =
-    elim (one_or_less asked moment first.meets) [
+first_is_required : (required : List ℕ) (moment : ℕ) → IsFirstNotBefore required moment → 0 < moment → Contains required moment
+first_is_required required zero first some = absurd (omega (arith, some))
+first_is_required required (suc moment) first some =
+    elim (one_or_less required moment first.meets) [
       | inl all ↦ absurd (let low = first.first moment all in omega (arith, low))
       | inr one ↦ one
     ]
@@ -103,7 +103,7 @@ module _ (net : Plan) (table : Graph) (order : List PointId) (by : IsDispatchedB
 
   within : (edge : Edge) → HasEdge table edge → unsigned_abs edge.weight ≤ most_size
   within edge has =
-      let may = closures_may_dispatch net table order by.instant.sound by.closure by.ordered in
+      let may = law_closures_may_dispatch net table order by.instant.sound by.closure by.ordered in
       let small = greatest-le net by.instant.sound in
       let low = may.within edge has in
       omega (arith, low, small)
@@ -113,9 +113,9 @@ module _ (net : Plan) (table : Graph) (order : List PointId) (by : IsDispatchedB
     conditions = conditions_at (dispatchable net table) point
 
     exact : AreExact table point conditions
-    exact = (lists_are_exact net table point run.for run.sound executable.0).0 executable
+    exact = (law_lists_are_exact net table point run.for run.sound executable.0).0 executable
 
-    before_by_bound : (bound : PointId × ℤ) → Contains conditions.lower_bounds bound → bound_asks schedule bound ≡ moment_in schedule point → IsBefore net schedule point
+    before_by_bound : (bound : PointId × ℤ) → Contains conditions.lower_bounds bound → required_by_bound schedule bound ≡ moment_in schedule point → IsBefore net schedule point
     before_by_bound bound among is =
         let (some, has) = (exact.bounds bound.0 bound.1).0 among in
         let edge : Edge = record { from = point; to = bound.0; label = None; weight = pos 0 -ℤ bound.1 } in
@@ -129,7 +129,7 @@ module _ (net : Plan) (table : Graph) (order : List PointId) (by : IsDispatchedB
           near = omega (arith, is, small);
         }
 
-    before_by_wait : (wait : LinkId × ℤ) → Contains conditions.waits wait → wait_asks net schedule wait ≡ moment_in schedule point → 0 < moment_in schedule point → IsBefore net schedule point
+    before_by_wait : (wait : LinkId × ℤ) → Contains conditions.waits wait → required_by_wait net schedule wait ≡ moment_in schedule point → 0 < moment_in schedule point → IsBefore net schedule point
     before_by_wait wait among is some =
         let (more, edge) = (exact.waits wait.0 wait.1).0 among in
         let (one, small) = sized wait.1 more (within (record { from = point; to = edge.0; label = Some wait.0; weight = pos 0 -ℤ wait.1 }) edge.1) in
@@ -152,10 +152,10 @@ module _ (net : Plan) (table : Graph) (order : List PointId) (by : IsDispatchedB
 
     before_executable : 0 < moment_in schedule point → IsBefore net schedule point
     before_executable some =
-        elim (Contains-append_cases (map (bound_asks schedule) conditions.lower_bounds) (map (wait_asks net schedule) conditions.waits) (moment_in schedule point)
-        (first_is_asked (asked_by net schedule conditions) (moment_in schedule point) (run.executed.executable point executable) some)) [
-          | inl asked ↦ (let (bound, among, is) = Contains-map_from (bound_asks schedule) conditions.lower_bounds (moment_in schedule point) asked in before_by_bound bound among is)
-          | inr asked ↦ (let (wait, among, is) = Contains-map_from (wait_asks net schedule) conditions.waits (moment_in schedule point) asked in before_by_wait wait among is some)
+        elim (Contains-append_cases (map (required_by_bound schedule) conditions.lower_bounds) (map (required_by_wait net schedule) conditions.waits) (moment_in schedule point)
+        (first_is_required (required_moments net schedule conditions) (moment_in schedule point) (run.executed.executable point executable) some)) [
+          | inl required ↦ (let (bound, among, is) = Contains-map_from (required_by_bound schedule) conditions.lower_bounds (moment_in schedule point) required in before_by_bound bound among is)
+          | inr required ↦ (let (wait, among, is) = Contains-map_from (required_by_wait net schedule) conditions.waits (moment_in schedule point) required in before_by_wait wait among is some)
         ]
 
   before_ending : (point : PointId) → Ending net point → IsBefore net schedule point
@@ -199,8 +199,7 @@ module _ (net : Plan) (table : Graph) (order : List PointId) (by : IsDispatchedB
         | inr none ↦ omega (arith, none)
       ]
 
-  -- By the limits each point is played in good time, with no room left: 2,000 points, each at most 2,000,000,000 moments after another one,
-  -- are at most the 4,000,000,000,000 moments of an execution.
+  -- The limits just suffice for each point to be played: 2,000 points, each at most 2,000,000,000 moments after another one, are at most the 4,000,000,000,000 moments of an execution.
   pub in_good_time : (point : PointId) → IsPoint net point → moment_in schedule point ≤ most_moment
   in_good_time point inside =
       let late = late_by (suc (moment_in schedule point)) point inside (omega arith) in

@@ -1,4 +1,4 @@
--- The names of forged networks: letters with numbers, told apart by their letter and their number.
+-- The names of forged networks: letters with numbers, distinguished by their letter and their number.
 use Rattle.std.proofs.Common.{◌≡◌, ℕ, ◌+◌, ◌*◌, ◌^◌, ◌<◌, ◌==◌, ◌&&◌, true, List, [], ◌∷◌, ◌++◌, length, nat_lt, refl, sym, arith, rules}
 use Rattle.std.specs.Prelude.{codes, if◌then◌else◌}
 use Rattle.std.specs.List.{list_all}
@@ -10,11 +10,11 @@ use Rattle.std.proofs.lemmas.Str.Parse.{IsNumeralModel, IsDigitsTest, numerals_b
 use Rattle.net_model.specs.Names.{is_digit, is_letter, is_name_byte, is_name}
 use Rattle.situation_player.specs.ForgedParts.{is_one_letter, start_name, end_name, watch_name}
 
-tells : IsDigitsTest (λ ds. list_all is_digit ds ≡ true)
-tells = search rules
+test_by_digits : IsDigitsTest (λ ds. list_all is_digit ds ≡ true)
+test_by_digits = search rules
 
 own : IsNumeralModel (λ ds. list_all is_digit ds ≡ true) (digits_value 10)
-own = numerals_by_value (λ ds. list_all is_digit ds ≡ true) tells
+own = numerals_by_value (λ ds. list_all is_digit ds ≡ true) test_by_digits
 
 pub decimal_value : (n : ℕ) → n < 2 ^ 64 → digits_value 10 (decimal n) ≡ n
 decimal_value n small = digits_value-decimal own n small

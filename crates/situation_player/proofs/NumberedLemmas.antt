@@ -37,8 +37,8 @@ numbered_fits (link ∷ links) net number sound =
       numbered_fits links net (number / choices link) (All-tail (IsLink net) link links sound),
     )
 
-pub numbers_are_situations : NumbersAreSituations
-numbers_are_situations net number plan = numbered_fits net.links net number plan.links_sound
+pub law_numbers_are_situations : NumbersAreSituations
+law_numbers_are_situations net number plan = numbered_fits net.links net number plan.links_sound
 
 -- the number 0 is that of the shortest durations
 pub numbered_zero : (links : List Link) → numbered 0 links ≡ map shortest_of links
@@ -74,8 +74,8 @@ number_of (link ∷ links) net (duration ∷ situation) sound fits =
     let later : numbered (number / choices link) links ≡ situation = ap (λ (n : ℕ). numbered n links) over ∙ rest.1 in
     (number, ap (λ (d : ℕ). d ∷ numbered (number / choices link) links) here ∙ ap (λ (ds : List ℕ). duration ∷ ds) later)
 
-pub situations_have_numbers : SituationsHaveNumbers
-situations_have_numbers net situation plan fits = number_of net.links net situation plan.links_sound fits
+pub law_situations_have_numbers : SituationsHaveNumbers
+law_situations_have_numbers net situation plan fits = number_of net.links net situation plan.links_sound fits
 
 -- what is left of a number after one more link, and past the last one
 pub numbered_more : (links : List Link) (k rest shortest count : ℕ) (d : Link) (so_far after whole : List ℕ) → k < length links → shortest ≡ shortest_of (get_or links k d) → count ≡ choices (get_or links k d)

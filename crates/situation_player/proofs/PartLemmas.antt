@@ -51,6 +51,6 @@ three_added before one two three a b c first second third =
 pub all_added : (none one two three all ps qs rs ss : List Part) → none ≡ [] → one ≡ none ++ ps → two ≡ one ++ qs → three ≡ two ++ rs → all ≡ three ++ ss
     → all ≡ ps ++ (qs ++ (rs ++ ss))
 all_added none one two three all ps qs rs ss empty first second third fourth =
-    let begun : one ≡ ps = first ∙ ap (λ (xs : List Part). xs ++ ps) empty in
-    let next : three ≡ ps ++ (qs ++ rs) = third ∙ ap (λ (xs : List Part). xs ++ rs) (second ∙ ap (λ (xs : List Part). xs ++ qs) begun) ∙ append_assoc ps qs rs in
+    let from_start : one ≡ ps = first ∙ ap (λ (xs : List Part). xs ++ ps) empty in
+    let next : three ≡ ps ++ (qs ++ rs) = third ∙ ap (λ (xs : List Part). xs ++ rs) (second ∙ ap (λ (xs : List Part). xs ++ qs) from_start) ∙ append_assoc ps qs rs in
     fourth ∙ ap (λ (xs : List Part). xs ++ ss) next ∙ append_assoc ps (qs ++ rs) ss ∙ ap (λ (xs : List Part). ps ++ xs) (append_assoc qs rs ss)

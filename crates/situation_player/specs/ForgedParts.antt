@@ -51,12 +51,12 @@ abbrev pub parts_from : (ℕ → Task → List Part) → ℕ → List Task → L
 parts_from parts i [] = []
 parts_from parts i (task ∷ tasks) = parts i task ++ parts_from parts (i + 1) tasks
 
--- the deadline: from the first start to the last end
+-- the deadline: from the first start to the last end, the longest durations together less the cut
 abbrev pub deadline_part : List Task → (cut : ℕ) → Part
 deadline_part tasks cut =
     part.Bound (codes "dl") (start_name 1) (end_name (length tasks)) (pos (sum (map (λ (task : Task). task.high) tasks)) -ℤ pos cut)
 
--- the parts of tasks
+-- the parts of tasks: their points, their links with the bounds of their watches, the bounds from each task to the next, and the deadline
 abbrev pub parts_of_tasks : List Task → (cut : ℕ) → List Part
 parts_of_tasks tasks cut =
     parts_from (λ i task. task_points i) 1 tasks

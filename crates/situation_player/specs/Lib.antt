@@ -1,5 +1,5 @@
 pub mod Numbered
-pub mod Playing
+pub mod PlayedDays
 pub mod Generator
 pub mod Tasks
 pub mod ForgedParts

@@ -7,16 +7,16 @@ ghost use Rattle.situation_player.specs.Laws.{SituationsHaveNumbers, NumbersAreS
 use crate::parts::MOST_TASKS;
 
 /// Every situation of a network is that of some number.
-pub fn situations_have_numbers()
+pub fn law_situations_have_numbers()
     ensures { SituationsHaveNumbers }
 {}
 
 /// The situation of every number is one of the network.
-pub fn numbers_are_situations()
+pub fn law_numbers_are_situations()
     ensures { NumbersAreSituations }
 {}
 
 /// The greatest number of tasks of the code is that of the definitions.
-pub fn most_tasks_are_defined()
+pub fn law_most_tasks_are_defined()
     ensures { MOST_TASKS ≡ most_tasks }
 {}

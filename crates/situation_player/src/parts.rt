@@ -4,7 +4,9 @@ ghost use Rattle.std.specs.Prelude.{◌≡◌, true, ◌++◌, ◌≤◌, ◌<�
 ghost use Rattle.std.specs.List.{All};
 ghost use Rattle.std.specs.Fmt.{decimal};
 ghost use Rattle.net_model.specs.Names.{is_name};
-ghost use Rattle.situation_player.specs.ForgedParts.{is_one_letter, most_tasks, task_points, task_parts, next_parts, parts_from, deadline_part, parts_of_tasks};
+ghost use Rattle.situation_player.specs.ForgedParts.{is_one_letter, most_tasks, task_points};
+ghost use Rattle.situation_player.specs.ForgedParts.{task_parts, next_parts, parts_from};
+ghost use Rattle.situation_player.specs.ForgedParts.{deadline_part, parts_of_tasks};
 ghost use Rattle.situation_player.specs.Tasks.{IsSmall};
 ghost use Rattle.situation_player.specs.declared.tasks.Task.{Task};
 
@@ -15,8 +17,8 @@ use std::alloc::{AllocError, Global};
 /// The greatest number of tasks of a forged network.
 pub const MOST_TASKS: u32 = 333;
 
-/// The parts of tasks, of which there is one at least: their points, their links with the bounds of their watches, the bounds from each to
-/// the next, and the deadline, which is cut by so much.
+/// The parts of tasks, of which there is one at least: their points, their links with the bounds of
+/// their watches, the bounds from each to the next, and the deadline, which is cut by so much.
 pub(crate) fn parts_of_tasks(
     alloc: Global,
     tasks: &[Task],
@@ -38,7 +40,8 @@ pub(crate) fn parts_of_tasks(
 /// Adds the points of each task.
 fn push_points(alloc: Global, parts: &mut Vec<Part>, tasks: &[Task]) -> Result<(), AllocError>
     requires { length tasks.now ≤ most_tasks }
-    ensures { OnOk result (parts.new.items ≡ parts.old.items ++ parts_from (λ i task. task_points i) 1 tasks.now) }
+    ensures { OnOk result (parts.new.items ≡ parts.old.items ++ parts_from
+        (λ i task. task_points i) 1 tasks.now) }
 {
     for k in 0..tasks.len() {
         push_task_points(alloc, parts, k as u32 + 1)?;

@@ -4,19 +4,20 @@ ghost use Rattle.std.specs.Prelude.{◌≡◌, ◌+◌, ◌≤◌, ◌^◌, map,
 ghost use Rattle.strategy_model.specs.Situations.{IsSituation};
 ghost use Rattle.situation_player.specs.Numbered.{numbered, shortest_of, longest_of, choices};
 
-use crate::laws::numbers_are_situations;
+use crate::laws::law_numbers_are_situations;
 use net_model::{Link, Network};
 use std::alloc::{AllocError, Global};
 use strategy_model::Situation;
 
-/// The situation of a number. From the first link on, each link lasts so much longer than its shortest duration as the number leaves over
-/// when it is divided by the count of the link's durations, and the quotient is the number for the links after it. `AllocError` comes only
-/// for want of memory.
+/// The situation of a number. From the first link on, each link lasts so much longer than its
+/// shortest duration as the number leaves over when it is divided by the count of the link's
+/// durations, and the quotient is the number for the links after it. `AllocError` comes only if
+/// memory is refused.
 pub fn situation(alloc: Global, number: u64, net: &Network) -> Result<Situation, AllocError>
     ensures numbered { IfOk result (λ situation. situation.items ≡ numbered number net.now.links) }
     ensures situation { IfOk result (λ situation. IsSituation net.now situation.items) }
 {
-    numbers_are_situations();
+    law_numbers_are_situations();
     let links = net.links();
     let mut rest = number;
     let mut durations = Vec::new(alloc);
@@ -28,7 +29,8 @@ pub fn situation(alloc: Global, number: u64, net: &Network) -> Result<Situation,
     Ok(durations)
 }
 
-/// The situation in which each link lasts its shortest duration: that of the number 0. `AllocError` comes only for want of memory.
+/// The situation in which each link lasts its shortest duration: that of the number 0. `AllocError`
+/// comes only if memory is refused.
 pub fn shortest(alloc: Global, net: &Network) -> Result<Situation, AllocError>
     ensures low { IfOk result (λ situation. situation.items ≡ map shortest_of net.now.links) }
     ensures first { IfOk result (λ situation. situation.items ≡ numbered 0 net.now.links) }
@@ -38,7 +40,8 @@ pub fn shortest(alloc: Global, net: &Network) -> Result<Situation, AllocError>
     Ok(durations)
 }
 
-/// The situation in which each link lasts its longest duration. `AllocError` comes only for want of memory.
+/// The situation in which each link lasts its longest duration. `AllocError` comes only if memory
+/// is refused.
 pub fn longest(alloc: Global, net: &Network) -> Result<Situation, AllocError>
     ensures high { IfOk result (λ situation. situation.items ≡ map longest_of net.now.links) }
     ensures situation { IfOk result (λ situation. IsSituation net.now situation.items) }

@@ -4,7 +4,7 @@ ghost use Rattle.std.specs.Prelude.{◌≡◌, ◌*◌, IfOk, OnOk};
 ghost use Rattle.situation_player.specs.Generator.{state_after};
 ghost use Rattle.situation_player.specs.Tasks.{task_from, tasks_drawn};
 
-use crate::generating::Generator;
+use crate::generator::Generator;
 use std::alloc::{AllocError, Global};
 
 /// A task of a forged network, in whole moments.
@@ -50,7 +50,8 @@ pub(crate) fn draw_tasks(
     count: u32,
 ) -> Result<Vec<Task>, AllocError>
     ensures tasks { IfOk result (λ tasks. tasks.items ≡ tasks_drawn generator.old.state count) }
-    ensures state { OnOk result (generator.new.state ≡ state_after generator.old.state (5 * count)) }
+    ensures state { OnOk result (generator.new.state ≡ state_after generator.old.state
+        (5 * count)) }
 {
     let mut tasks = Vec::new(alloc);
     for _ in 0..count {

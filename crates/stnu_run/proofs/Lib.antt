@@ -1,2 +1,3 @@
 pub mod NamedLemmas
 pub mod OneLemmas
+pub mod TableLemmas

@@ -1,2 +1,3 @@
 pub mod DefinedRuns
 pub mod WordLaws
+pub mod Table

@@ -1,7 +1,7 @@
 -- What the laws of words speak of.
 use Rattle.std.specs.Prelude.{◌≡◌, ◌↔◌, ℕ, List}
 use Rattle.stnu_run.specs.DefinedRuns.{DefinedRun}
-use Rattle.command_frame.specs.declared.status.Status.{Status}
+use Rattle.command_contracts.specs.declared.status.Status.{Status}
 
 -- the words are not refused: no run of theirs ends with 2
 abbrev pub AreTaken : (words : List (List ℕ)) → Type 0

@@ -1,9 +1,14 @@
-//! What the program does: its words, its commands, and the run that serves them over a port.
+//! What the program does: its words, its commands, and the run that serves them over a port; and
+//! the table of its commands, outside of which words are refused.
 #![tactic(auto)]
 
 mod dispatch;
 mod laws;
+mod table_laws;
 
-pub use command_frame::Status;
+pub use command_contracts::Status;
 pub use dispatch::run;
-pub use laws::{defined_run_is_one, feeders_change_nothing, workers_change_nothing};
+pub use laws::{law_defined_run_is_one, law_feeders_change_nothing, law_workers_change_nothing};
+pub use table_laws::{
+    law_runs_refuse_words_outside_the_table, law_words_are_refused_outside_the_table,
+};

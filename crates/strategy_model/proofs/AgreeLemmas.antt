@@ -80,12 +80,15 @@ module _ (net : Plan) (name : LinkId) (link : Link) (ds es first second : List �
         | inr apart ↦ ap (completes so_far t other) (same_Some d e (sym its_d ∙ differ.elsewhere i apart ∙ its_e))
       ]
 
-  same_points_completed : (tree : Tree) (so_far : PartialSchedule) (t : ℕ) → t < limit → instant_from tree net ds so_far t ≡ Some first → instant_from tree net es so_far t ≡ Some second → completed net ds so_far t ≡ completed net es so_far t
+  same_points_completed : (tree : Tree) (so_far : PartialSchedule) (t : ℕ) → t < limit → instant_from tree net ds so_far t ≡ Some first → instant_from tree net es so_far t ≡ Some second
+      → completed net ds so_far t ≡ completed net es so_far t
   same_points_completed tree so_far t before played_first played_second =
-      filter_agree (is_completed so_far t net.links ds) (is_completed so_far t net.links es) (same_completed so_far t net.links ds es differ.first_length differ.second_length (same_links tree so_far t before played_first played_second)) (points_of net)
+      filter_agree (is_completed so_far t net.links ds) (is_completed so_far t net.links es) (same_completed so_far t net.links ds es differ.first_length differ.second_length (same_links tree so_far t before played_first played_second))
+      (points_of net)
 
   -- a point that comes before a moment that isn't before the limit is known by then
-  known_by_then : (tree : Tree) (so_far : PartialSchedule) (t : ℕ) → limit ≤ t → instant_from tree net ds so_far t ≡ Some first → instant_from tree net es so_far t ≡ Some second → (p : PointId) → p.0 < length net.points → slice_index first p.0 < limit → slice_index first p.0 ≡ slice_index second p.0
+  known_by_then : (tree : Tree) (so_far : PartialSchedule) (t : ℕ) → limit ≤ t → instant_from tree net ds so_far t ≡ Some first → instant_from tree net es so_far t ≡ Some second → (p : PointId) → p.0 < length net.points
+      → slice_index first p.0 < limit → slice_index first p.0 ≡ slice_index second p.0
   known_by_then tree so_far t past played_first played_second p within sooner = go (moment_so_far so_far p) refl
     where
       go : (o : Option ℕ) → moment_so_far so_far p ≡ o → slice_index first p.0 ≡ slice_index second p.0
@@ -96,7 +99,8 @@ module _ (net : Plan) (name : LinkId) (link : Link) (ds es first second : List �
           absurd (omega (arith, later))
 
   mutual
-    pub agree_from : (tree : Tree) (so_far : PartialSchedule) (t : ℕ) → instant_from tree net ds so_far t ≡ Some first → instant_from tree net es so_far t ≡ Some second → (p : PointId) → p.0 < length net.points → slice_index first p.0 < limit → slice_index first p.0 ≡ slice_index second p.0
+    pub agree_from : (tree : Tree) (so_far : PartialSchedule) (t : ℕ) → instant_from tree net ds so_far t ≡ Some first → instant_from tree net es so_far t ≡ Some second → (p : PointId) → p.0 < length net.points
+        → slice_index first p.0 < limit → slice_index first p.0 ≡ slice_index second p.0
     agree_from Leaf so_far t played_first played_second p within sooner =
         ap (λ (s : List ℕ). slice_index s p.0) (same_Some first second (sym played_first ∙ played_second))
     agree_from (Node' shape cases) so_far t played_first played_second p within sooner =
@@ -108,11 +112,13 @@ module _ (net : Plan) (name : LinkId) (link : Link) (ds es first second : List �
           | inr past ↦ known_by_then (Node' shape cases) so_far t past played_first played_second p within sooner
         ]
 
-    agree_cases : {m : _} (cases : Row_of-Case m) (so_far : PartialSchedule) (t : ℕ) (points : List PointId) → instant_cases cases net ds so_far t points ≡ Some first → instant_cases cases net es so_far t points ≡ Some second → (p : PointId) → p.0 < length net.points → slice_index first p.0 < limit → slice_index first p.0 ≡ slice_index second p.0
+    agree_cases : {m : _} (cases : Row_of-Case m) (so_far : PartialSchedule) (t : ℕ) (points : List PointId) → instant_cases cases net ds so_far t points ≡ Some first → instant_cases cases net es so_far t points ≡ Some second
+        → (p : PointId) → p.0 < length net.points → slice_index first p.0 < limit → slice_index first p.0 ≡ slice_index second p.0
     agree_cases end_of-Case so_far t points played_first played_second p within sooner = absurd (none-some first played_first)
     agree_cases (more_of-Case seen acts next others) so_far t points played_first played_second p within sooner =
         let and_now = and_moment so_far t seen acts in
-        elim (both (pointwise same_point seen points) (cond (may_act net so_far acts) (instant_from next net ds and_now (t + 1)) None) (instant_cases others net ds so_far t points) (cond (may_act net so_far acts) (instant_from next net es and_now (t + 1)) None) (instant_cases others net es so_far t points) played_first played_second) [
+        elim (both (pointwise same_point seen points) (cond (may_act net so_far acts) (instant_from next net ds and_now (t + 1)) None) (instant_cases others net ds so_far t points)
+        (cond (may_act net so_far acts) (instant_from next net es and_now (t + 1)) None) (instant_cases others net es so_far t points) played_first played_second) [
           | inl here ↦ elim (both (may_act net so_far acts) (instant_from next net ds and_now (t + 1)) None (instant_from next net es and_now (t + 1)) None here.0 here.1) [
             | inl may ↦ agree_from next and_now (t + 1) may.0 may.1 p within sooner
             | inr refused ↦ absurd (none-some first refused.0)

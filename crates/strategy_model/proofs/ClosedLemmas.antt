@@ -12,7 +12,7 @@ use Rattle.net_model.specs.declared.ids.LinkId.{LinkId}
 use Rattle.net_model.specs.declared.part.Bound.{Bound}
 use Rattle.net_model.specs.declared.part.Edge.{Edge}
 use Rattle.net_model.specs.declared.part.Link.{Link}
-use Rattle.net_model.proofs.ApplyingLemmas.{no_case_applies, upper_case_applies, lower_case_applies, cross_case_applies, removal_applies}
+use Rattle.net_model.proofs.AppliedRuleLemmas.{no_case_applies, upper_case_applies, lower_case_applies, cross_case_applies, removal_applies}
 use Rattle.strategy_model.specs.Dispatch.{Stands, IsClosedList}
 
 -- ---- sums
@@ -33,14 +33,16 @@ module _ (net : Plan) (edges : List Edge) (closed : IsClosedList net edges) wher
   pub stands_link : (name : LinkId) (link : Link) → IsLinkOf net name link → Stands edges (link_edge name link)
   stands_link name link declared = closed.closed (link_edge name link) (by_link name link declared refl)
 
-  pub stands_no_case : (first second : Edge) → Contains edges first → Contains edges second → first.label ≡ None → second.label ≡ None → first.to ≡ second.from → second.weight <ℤ pos 0 → pos 0 ≤ℤ first.weight → Stands edges (record { from = first.from; to = second.to; label = None; weight = first.weight +ℤ second.weight })
+  pub stands_no_case : (first second : Edge) → Contains edges first → Contains edges second → first.label ≡ None → second.label ≡ None → first.to ≡ second.from → second.weight <ℤ pos 0 → pos 0 ≤ℤ first.weight
+      → Stands edges (record { from = first.from; to = second.to; label = None; weight = first.weight +ℤ second.weight })
   stands_no_case first second one two first_ordinary second_ordinary meets negative from_zero =
       subst (λ (w : ℤ). Stands edges (record { from = first.from; to = second.to; label = None; weight = w })) (max_zero first.weight second.weight from_zero)
       (closed.closed (record { from = first.from; to = second.to; label = None; weight = joined_weight first second })
       (by_no_case first second one two (no_case_applies first second first_ordinary second_ordinary meets negative)))
 
   -- negative ordinary edges in a row give one over both
-  pub stands_over_both : (first second : Edge) → Contains edges first → Contains edges second → first.label ≡ None → second.label ≡ None → first.to ≡ second.from → first.weight <ℤ pos 0 → second.weight <ℤ pos 0 → Stands edges (record { from = first.from; to = second.to; label = None; weight = second.weight })
+  pub stands_over_both : (first second : Edge) → Contains edges first → Contains edges second → first.label ≡ None → second.label ≡ None → first.to ≡ second.from → first.weight <ℤ pos 0 → second.weight <ℤ pos 0
+      → Stands edges (record { from = first.from; to = second.to; label = None; weight = second.weight })
   stands_over_both first second one two first_ordinary second_ordinary meets first_negative negative =
       subst (λ (w : ℤ). Stands edges (record { from = first.from; to = second.to; label = None; weight = w })) (max_negative first.weight second.weight first_negative)
       (closed.closed (record { from = first.from; to = second.to; label = None; weight = joined_weight first second })
@@ -57,11 +59,13 @@ module _ (net : Plan) (edges : List Edge) (closed : IsClosedList net edges) wher
   stands_lower_case name link second declared one ordinary begins negative =
       closed.closed (moved_to_activation link second) (by_lower_case name second one (lower_case_applies net name link second declared ordinary begins negative))
 
-  pub stands_cross_case : (name label : LinkId) (link : Link) (second : Edge) → IsLinkOf net name link → Contains edges second → second.label ≡ Some label → label ≢ name → second.from ≡ link.to → second.weight <ℤ pos 0 → Stands edges (moved_to_activation link second)
+  pub stands_cross_case : (name label : LinkId) (link : Link) (second : Edge) → IsLinkOf net name link → Contains edges second → second.label ≡ Some label → label ≢ name → second.from ≡ link.to → second.weight <ℤ pos 0
+      → Stands edges (moved_to_activation link second)
   stands_cross_case name label link second declared one labelled other begins negative =
       closed.closed (moved_to_activation link second) (by_cross_case name second one (cross_case_applies net name link second label declared labelled other begins negative))
 
-  pub stands_removal : (name : LinkId) (link : Link) (premise : Edge) → IsLinkOf net name link → Contains edges premise → premise.label ≡ Some name → Stands edges (record premise { label = None; weight = int_max premise.weight (pos 0 -ℤ link.low) })
+  pub stands_removal : (name : LinkId) (link : Link) (premise : Edge) → IsLinkOf net name link → Contains edges premise → premise.label ≡ Some name
+      → Stands edges (record premise { label = None; weight = int_max premise.weight (pos 0 -ℤ link.low) })
   stands_removal name link premise declared one labelled =
       closed.closed (record premise { label = None; weight = int_max premise.weight (pos 0 -ℤ link.low) }) (by_removal premise one (removal_applies net premise name link declared labelled))
 

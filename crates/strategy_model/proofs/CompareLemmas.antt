@@ -21,8 +21,8 @@ use Rattle.strategy_model.proofs.PlayLemmas.{lasting, follow_at_first, link_soun
 use Rattle.strategy_model.proofs.InstantLemmas.{as_instant}
 use Rattle.strategy_model.proofs.AgreeLemmas.{agree_from, played_length}
 
-pub completion_follows_activation : CompletionFollowsActivation
-completion_follows_activation net strategy situation schedule name link duration instant played declared lasts =
+pub law_completion_follows_activation : CompletionFollowsActivation
+law_completion_follows_activation net strategy situation schedule name link duration instant played declared lasts =
     lasting net instant.sound situation schedule strategy [] 0 (as_instant net strategy situation schedule instant played) (follow_at_first net situation) name.0 link duration declared lasts
 
 -- the moment of a number beyond the points is 0
@@ -37,8 +37,8 @@ situation_length [] (d ∷ durations) picks = absurd picks
 situation_length (link ∷ links) [] picks = absurd picks
 situation_length (link ∷ links) (d ∷ durations) picks = ap suc (situation_length links durations picks.1)
 
-pub plays_agree : PlaysAgree
-plays_agree net strategy name link first second first_play second_play instant declared is_first is_second differ played_first played_second point sooner =
+pub law_plays_agree : PlaysAgree
+law_plays_agree net strategy name link first second first_play second_play instant declared is_first is_second differ played_first played_second point sooner =
     let sound = link_sound net instant.sound name.0 link declared in
     let limit = min (moment_in first_play link.to) (moment_in second_play link.to) in
     let instantly_first = as_instant net strategy first first_play instant played_first in
@@ -138,17 +138,18 @@ record PlayedInBoth (net : Plan) (strategy : Tree) (name : LinkId) (link : Link)
 module _ (net : Plan) (strategy : Tree) (name : LinkId) (link : Link) (situation other schedule other_schedule : List ℕ) (duration another : ℕ)
     (both : PlayedInBoth net strategy name link situation other schedule other_schedule duration another) where
   agree : (point : PointId) → moment_in schedule point < min (moment_in schedule link.to) (moment_in other_schedule link.to) → moment_in schedule point ≡ moment_in other_schedule point
-  agree = plays_agree net strategy name link situation other schedule other_schedule both.instant both.declared both.is_situation both.is_other both.differ both.played both.other_played
+  agree = law_plays_agree net strategy name link situation other schedule other_schedule both.instant both.declared both.is_situation both.is_other both.differ both.played both.other_played
 
   agree_back : (point : PointId) → moment_in other_schedule point < min (moment_in schedule link.to) (moment_in other_schedule link.to) → moment_in schedule point ≡ moment_in other_schedule point
   agree_back point before =
-      sym (plays_agree net strategy name link other situation other_schedule schedule both.instant both.declared both.is_other both.is_situation (λ k apart. sym (both.differ k apart)) both.other_played both.played point (omega (arith, before)))
+      sym (law_plays_agree net strategy name link other situation other_schedule schedule both.instant both.declared both.is_other both.is_situation (λ k apart. sym (both.differ k apart)) both.other_played both.played point
+      (omega (arith, before)))
 
   compared_with : Compared net strategy name link situation schedule another
   compared_with =
       let sound = link_sound net both.instant.sound name.0 link both.declared in
-      let completes = completion_follows_activation net strategy situation schedule name link duration both.instant both.played both.declared both.lasts in
-      let other_completes = completion_follows_activation net strategy other other_schedule name link another both.instant both.other_played both.declared both.other_lasts in
+      let completes = law_completion_follows_activation net strategy situation schedule name link duration both.instant both.played both.declared both.lasts in
+      let other_completes = law_completion_follows_activation net strategy other other_schedule name link another both.instant both.other_played both.declared both.other_lasts in
       let same_activation = activation_agrees (moment_in schedule link.from) (moment_in other_schedule link.from) duration another (at_least_1 net link duration sound both.is_duration)
       (at_least_1 net link another sound both.is_another) (λ before. agree link.from (omega (arith, before, completes, other_completes)))
       (λ before. agree_back link.from (omega (arith, before, completes, other_completes))) in

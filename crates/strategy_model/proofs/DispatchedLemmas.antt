@@ -20,7 +20,8 @@ at_most_or_above x y = by (y -ℤ x) refl
     by (pos n) is = inl (omega (arith, ints, is))
     by (negsuc n) is = inr (omega (arith, ints, is))
 
-bound_keeps : (net : Plan) (edges : List Edge) (situation schedule : List ℕ) → IsPlan net → IsClosedList net edges → IsSituation net situation → IsDispatched net edges situation schedule → (place : ℕ) (bound : Bound) → slice_get net.bounds place ≡ Some bound → Keeps schedule bound
+bound_keeps : (net : Plan) (edges : List Edge) (situation schedule : List ℕ) → IsPlan net → IsClosedList net edges → IsSituation net situation → IsDispatched net edges situation schedule → (place : ℕ) (bound : Bound)
+    → slice_get net.bounds place ≡ Some bound → Keeps schedule bound
 bound_keeps net edges situation schedule plan closed is_situation dispatched place bound declared =
     elim (at_most_or_above (pos (moment_in schedule bound.to) -ℤ pos (moment_in schedule bound.from)) bound.most) [
       | inl kept ↦ kept
@@ -35,8 +36,8 @@ bound_keeps net edges situation schedule plan closed is_situation dispatched pla
           }))
     ]
 
-pub dispatched_satisfy : DispatchedSatisfy
-dispatched_satisfy net edges situation schedule instant closed is_situation dispatched =
+pub law_dispatched_satisfy : DispatchedSatisfy
+law_dispatched_satisfy net edges situation schedule instant closed is_situation dispatched =
     record {
       complete = dispatched.complete;
       keeps = λ place other inside. bound_keeps net edges situation schedule instant.sound closed is_situation dispatched place (get_or net.bounds place other) (slice_get-get_or net.bounds place other inside);

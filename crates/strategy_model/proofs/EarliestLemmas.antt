@@ -23,6 +23,6 @@ both_ways (x ∷ xs) (y ∷ ys) below above =
     let rest = both_ways xs ys below.1 above.1 in
     cc
 
-pub at_most_one_earliest : AtMostOneEarliest
-at_most_one_earliest net situation first second is_first is_second =
+pub law_at_most_one_earliest : AtMostOneEarliest
+law_at_most_one_earliest net situation first second is_first is_second =
     both_ways first second (is_first.earliest is_second.strategy second is_second.controls is_second.played) (is_second.earliest is_first.strategy first is_first.controls is_first.played)

@@ -10,23 +10,23 @@ use Rattle.net_model.specs.Edges.{IsEdge}
 use Rattle.net_model.specs.Rules.{Follows, IsDerivation, is_negative}
 use Rattle.net_model.specs.LooseRules.{FollowsLoosely, IsLooseDerivation}
 use Rattle.net_model.specs.declared.part.Edge.{Edge}
-use Rattle.net_model.proofs.RuleLemmas.{exact_may_be_stated}
+use Rattle.net_model.proofs.RuleLemmas.{law_exact_may_be_stated}
 use Rattle.strategy_model.specs.Edges.{HoldsOf, IsNegativeOrdinary, IsNegativeLoop, IsNegativeCycle, total}
 use Rattle.strategy_model.specs.Laws.{ExactRulesKeepTruth, ExactDerivationsHaveEdges, ExactDerivationsAreTrue, NegativeCyclesExcludeStrategies}
-use Rattle.strategy_model.proofs.RuleLemmas.{rules_keep_truth, derivations_are_true}
-use Rattle.strategy_model.proofs.LoopLemmas.{rules_keep_edges, refutations_exclude_strategies}
+use Rattle.strategy_model.proofs.RuleLemmas.{law_rules_keep_truth, law_derivations_are_true}
+use Rattle.strategy_model.proofs.LoopLemmas.{law_rules_keep_edges, law_refutations_exclude_strategies}
 
 -- what an exact rule gives from edges of the network may be stated
 stated : (net : Plan) (earlier : List Edge) (edge : Edge) → All (IsEdge net) earlier → Follows net earlier edge → FollowsLoosely net earlier edge
-stated net earlier edge sound follows = exact_may_be_stated net earlier edge (recursion_from_All (IsEdge net) earlier sound) follows
+stated net earlier edge sound follows = law_exact_may_be_stated net earlier edge (recursion_from_All (IsEdge net) earlier sound) follows
 
-pub exact_rules_keep_truth : ExactRulesKeepTruth
-exact_rules_keep_truth net strategy earlier edge instant controls sound holds follows =
-    rules_keep_truth net strategy earlier edge instant controls (recursion_from_All (HoldsOf net strategy) earlier holds) (stated net earlier edge sound follows)
+pub law_exact_rules_keep_truth : ExactRulesKeepTruth
+law_exact_rules_keep_truth net strategy earlier edge instant controls sound holds follows =
+    law_rules_keep_truth net strategy earlier edge instant controls (recursion_from_All (HoldsOf net strategy) earlier holds) (stated net earlier edge sound follows)
 
 pub exact_rules_keep_edges : (net : Plan) (earlier : List Edge) (edge : Edge) → IsPlan net → All (IsEdge net) earlier → Follows net earlier edge → IsEdge net edge
 exact_rules_keep_edges net earlier edge plan sound follows =
-    rules_keep_edges net earlier edge plan (recursion_from_All (IsEdge net) earlier sound) (stated net earlier edge sound follows)
+    law_rules_keep_edges net earlier edge plan (recursion_from_All (IsEdge net) earlier sound) (stated net earlier edge sound follows)
 
 -- the edges of a derivation up to a place are edges of the network
 edges_up_to : (net : Plan) (edges : List Edge) → IsPlan net → IsDerivation net edges → (k : ℕ) → k ≤ length edges → All (IsEdge net) (take k edges)
@@ -41,8 +41,8 @@ edges_up_to net edges plan derivation (suc k) within =
       | inr (past, missing) ↦ absurd (omega arith)
     ]
 
-pub exact_derivations_have_edges : ExactDerivationsHaveEdges
-exact_derivations_have_edges net edges plan derivation =
+pub law_exact_derivations_have_edges : ExactDerivationsHaveEdges
+law_exact_derivations_have_edges net edges plan derivation =
     let whole : take (length edges) edges ≡ edges = take-length edges in
     subst (All (IsEdge net)) whole (edges_up_to net edges plan derivation (length edges) (omega arith))
 
@@ -54,9 +54,9 @@ derivation_stated net edges plan derivation place edge found =
       | inr (past, missing) ↦ let none : Some edge ≡ None = sym found ∙ missing in absurd cc
     ]
 
-pub exact_derivations_are_true : ExactDerivationsAreTrue
-exact_derivations_are_true net strategy edges instant controls derivation =
-    derivations_are_true net strategy edges instant controls (derivation_stated net edges instant.sound derivation)
+pub law_exact_derivations_are_true : ExactDerivationsAreTrue
+law_exact_derivations_are_true net strategy edges instant controls derivation =
+    law_derivations_are_true net strategy edges instant controls (derivation_stated net edges instant.sound derivation)
 
 pub below_zero : (edge : Edge) → IsTrue (is_negative edge) → edge.weight <ℤ pos 0
 below_zero edge holds = grind (arith, ints)
@@ -74,6 +74,6 @@ pub cycle_is_loop : (edges : List Edge) → IsNegativeCycle edges → IsNegative
 cycle_is_loop [] cycle = absurd (cycle.2 refl)
 cycle_is_loop (edge ∷ edges) cycle = (cycle.0, cycle.1, negative_total edge edges cycle.3)
 
-pub negative_cycles_exclude_strategies : NegativeCyclesExcludeStrategies
-negative_cycles_exclude_strategies net edges cycle instant derivation among negative controllable =
-    refutations_exclude_strategies net edges cycle instant (derivation_stated net edges instant.sound derivation) among (cycle_is_loop cycle negative) controllable
+pub law_negative_cycles_exclude_strategies : NegativeCyclesExcludeStrategies
+law_negative_cycles_exclude_strategies net edges cycle instant derivation among negative controllable =
+    law_refutations_exclude_strategies net edges cycle instant (derivation_stated net edges instant.sound derivation) among (cycle_is_loop cycle negative) controllable

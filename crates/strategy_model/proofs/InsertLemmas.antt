@@ -12,7 +12,7 @@ use Rattle.net_model.specs.Rules.{is_ordinary, is_negative}
 use Rattle.net_model.specs.declared.ids.PointId.{PointId}
 use Rattle.net_model.specs.declared.part.Edge.{Edge}
 use Rattle.net_model.proofs.RuleLemmas.{none_is}
-use Rattle.net_model.proofs.ApplyingLemmas.{negative_holds}
+use Rattle.net_model.proofs.AppliedRuleLemmas.{negative_holds}
 use Rattle.strategy_model.specs.Plays.{same_point, points_of}
 use Rattle.strategy_model.specs.Edges.{HasNoNegativeCycle}
 use Rattle.strategy_model.specs.Dispatch.{IsClosedList, IsOrder}
@@ -147,7 +147,8 @@ inserted_distinct edges point (first ∷ points) apart distinct =
 order_distinct : (edges : List Edge) (points : List PointId) → IsDistinct same_point points → IsDistinct same_point (order_of edges points)
 order_distinct edges [] distinct = distinct
 order_distinct edges (point ∷ points) distinct =
-    inserted_distinct edges point (order_of edges points) (order_all edges (λ other. same_point point other ≡ false) points (IsDistinct-head same_point point points distinct)) (order_distinct edges points (IsDistinct-tail same_point point points distinct))
+    inserted_distinct edges point (order_of edges points) (order_all edges (λ other. same_point point other ≡ false) points (IsDistinct-head same_point point points distinct))
+    (order_distinct edges points (IsDistinct-tail same_point point points distinct))
 
 above : (a n b : ℕ) → b < a → AllByRecursion (λ other. same_point (record { 0 = b }) other ≡ false) (map (λ k. record { 0 = k }) (range_with_len a n))
 above a zero b below = tt
@@ -185,7 +186,8 @@ module _ (net : Plan) (edges : List Edge) (closed : IsClosedList net edges) (acy
   over_both first second third one two =
       let here = goes_means edges first second one in
       let there = goes_means edges second third two in
-      let stands = stands_over_both net edges closed here.edge there.edge here.among there.among (none_is here.edge.label here.ordinary) (none_is there.edge.label there.ordinary) (here.ends ∙ sym there.begins) (below_zero here.edge here.negative) (below_zero there.edge there.negative) in
+      let stands = stands_over_both net edges closed here.edge there.edge here.among there.among (none_is here.edge.label here.ordinary) (none_is there.edge.label there.ordinary) (here.ends ∙ sym there.begins)
+      (below_zero here.edge here.negative) (below_zero there.edge there.negative) in
       let at_most = stands.at_most in
       let negative = below_zero there.edge there.negative in
       let below : stands.entry.weight <ℤ pos 0 = omega (arith, ints, at_most, negative) in
@@ -204,12 +206,12 @@ module _ (net : Plan) (edges : List Edge) (closed : IsClosedList net edges) (acy
       let found = goes_means edges point point holds in
       acyclic (found.edge ∷ []) (All-from_recursion (Contains edges) (found.edge ∷ []) (found.among, tt)) (point, (found.begins, found.ends), (λ none. absurd cc), ((found.ordinary, found.negative), tt)))
 
-  no_way_back : (point first : PointId) (points : List PointId) → list_any (goes edges point) points ≡ true → AllByRecursion (λ other. goes edges first other ≡ false) points → goes edges first point ≡ true → ⊥
-  no_way_back point first [] some none back = true≢false (sym some)
-  no_way_back point first (other ∷ points) some none back =
+  no_edge_back : (point first : PointId) (points : List PointId) → list_any (goes edges point) points ≡ true → AllByRecursion (λ other. goes edges first other ≡ false) points → goes edges first point ≡ true → ⊥
+  no_edge_back point first [] some none back = true≢false (sym some)
+  no_edge_back point first (other ∷ points) some none back =
       elim (or_cases (goes edges point other) (list_any (goes edges point) points) some) [
         | inl here ↦ true≢false (sym (over_both first point other back here) ∙ none.0)
-        | inr later ↦ no_way_back point first points later none.1 back
+        | inr later ↦ no_edge_back point first points later none.1 back
       ]
 
   inserted_in_order : (point : PointId) (points : List PointId) → InOrder edges points → InOrder edges (inserted edges point points)
@@ -219,7 +221,7 @@ module _ (net : Plan) (edges : List Edge) (closed : IsClosedList net edges) (acy
     where
       by : (b : Bool) → list_any (goes edges point) (first ∷ points) ≡ b → InOrder edges (inserted edges point points) → InOrder edges (cond b (first ∷ inserted edges point points) (point ∷ first ∷ points))
       by true some rest =
-          let fails = false_from_ne_true (goes edges first point) (no_way_back point first (first ∷ points) some ordered.0) in
+          let fails = false_from_ne_true (goes edges first point) (no_edge_back point first (first ∷ points) some ordered.0) in
           ((ordered.0.0, inserted_all edges (λ other. goes edges first other ≡ false) point points fails ordered.0.1), rest)
       by false none rest = ((not_to_itself point, none_holds (goes edges point) (first ∷ points) none), ordered)
 
@@ -231,7 +233,7 @@ module _ (net : Plan) (edges : List Edge) (closed : IsClosedList net edges) (acy
   has_order = record {
     complete = λ point within. contains_among (order_of edges (points_of net)) point (order_keeps edges (points_of net) point (among_place (points_of net) point.0 point (point_at net point within)));
     once = order_distinct edges (points_of net) (numbered_distinct 0 (length net.points));
-    falls = λ edge later earlier among negative at_from at_to. elim (cases_lt earlier later) [
+    descends = λ edge later earlier among negative at_from at_to. elim (cases_lt earlier later) [
       | inl before ↦ before
       | inr not_before ↦
           let fails = not_to_later edges (order_of edges (points_of net)) later earlier edge.from edge.to (order_in_order (points_of net)) not_before at_from at_to in
@@ -239,5 +241,5 @@ module _ (net : Plan) (edges : List Edge) (closed : IsClosedList net edges) (acy
     ];
   }
 
-pub closed_lists_have_orders : ClosedListsHaveOrders
-closed_lists_have_orders net edges closed acyclic = (order_of edges (points_of net), has_order net edges closed acyclic)
+pub law_closed_lists_have_orders : ClosedListsHaveOrders
+law_closed_lists_have_orders net edges closed acyclic = (order_of edges (points_of net), has_order net edges closed acyclic)

@@ -1,4 +1,4 @@
--- Where the delay is 0 a play is that of instantaneous reaction.
+-- If the delay is 0 a play is that of instantaneous reaction.
 use Rattle.std.proofs.Common.{◌≡◌, ℕ, ◌+◌, ◌-◌, ◌&&◌, Bool, false, cond, List, [], ◌∷◌, ◌++◌, Option, Some, None, refl, sym, ap, ◌∙◌, arith}
 use Rattle.std.specs.Prelude.{◌==◌, ◌||◌}
 use Rattle.std.specs.Cmp.Lexicographic.{pointwise}
@@ -43,16 +43,19 @@ module _ (net : Plan) (none : net.delay ≡ 0) (situation : List ℕ) where
     cases_instant end_of-Case so_far t points = refl
     cases_instant (more_of-Case seen acts next others) so_far t points =
         let none_less : t - net.delay ≡ t = omega (arith, none) in
-        ap (λ (m : ℕ). cond (pointwise same_point seen points) (cond (may_act net so_far acts) (play_from next net situation (so_far ++ at_moment m seen ++ at_moment t acts) (t + 1)) None) (play_cases others net situation so_far t points)) none_less
-        ∙ ap (λ (o : Option (List ℕ)). cond (pointwise same_point seen points) (cond (may_act net so_far acts) o None) (play_cases others net situation so_far t points)) (from_instant next (so_far ++ at_moment t seen ++ at_moment t acts) (t + 1))
-        ∙ ap (λ (o : Option (List ℕ)). cond (pointwise same_point seen points) (cond (may_act net so_far acts) (instant_from next net situation (so_far ++ at_moment t seen ++ at_moment t acts) (t + 1)) None) o) (cases_instant others so_far t points)
+        ap (λ (m : ℕ). cond (pointwise same_point seen points) (cond (may_act net so_far acts) (play_from next net situation (so_far ++ at_moment m seen ++ at_moment t acts) (t + 1)) None) (play_cases others net situation so_far t points))
+        none_less
+        ∙ ap (λ (o : Option (List ℕ)). cond (pointwise same_point seen points) (cond (may_act net so_far acts) o None) (play_cases others net situation so_far t points))
+        (from_instant next (so_far ++ at_moment t seen ++ at_moment t acts) (t + 1))
+        ∙ ap (λ (o : Option (List ℕ)). cond (pointwise same_point seen points) (cond (may_act net so_far acts) (instant_from next net situation (so_far ++ at_moment t seen ++ at_moment t acts) (t + 1)) None) o)
+        (cases_instant others so_far t points)
 
-pub no_delay_is_instant : NoDelayIsInstant
-no_delay_is_instant net strategy situation none = from_instant net none situation strategy [] 0
+pub law_no_delay_is_instant : NoDelayIsInstant
+law_no_delay_is_instant net strategy situation none = from_instant net none situation strategy [] 0
 
 -- a play of an instant network, and back
 pub as_instant : (net : Plan) (strategy : Tree) (situation schedule : List ℕ) → IsInstant net → play strategy net situation ≡ Some schedule → instant_from strategy net situation [] 0 ≡ Some schedule
-as_instant net strategy situation schedule instant played = sym (no_delay_is_instant net strategy situation instant.no_delay) ∙ played
+as_instant net strategy situation schedule instant played = sym (law_no_delay_is_instant net strategy situation instant.no_delay) ∙ played
 
 pub from_as_instant : (net : Plan) (strategy : Tree) (situation schedule : List ℕ) → IsInstant net → instant_from strategy net situation [] 0 ≡ Some schedule → play strategy net situation ≡ Some schedule
-from_as_instant net strategy situation schedule instant played = no_delay_is_instant net strategy situation instant.no_delay ∙ played
+from_as_instant net strategy situation schedule instant played = law_no_delay_is_instant net strategy situation instant.no_delay ∙ played

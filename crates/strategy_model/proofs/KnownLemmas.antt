@@ -109,7 +109,8 @@ none_again test a zero point below = refl
 none_again test a (suc n) point below =
     by (test (record { 0 = a })) (ne_eqb point.0 a (λ same. omega (arith, same, below))) (none_again test (a + 1) n point (omega (arith, below)))
   where
-    by : (b : Bool) → (point.0 == a) ≡ false → list_any (same_point point) (filter test (points_from (a + 1) n)) ≡ false → list_any (same_point point) (cond b (record { 0 = a } ∷ filter test (points_from (a + 1) n)) (filter test (points_from (a + 1) n))) ≡ false
+    by : (b : Bool) → (point.0 == a) ≡ false → list_any (same_point point) (filter test (points_from (a + 1) n)) ≡ false
+        → list_any (same_point point) (cond b (record { 0 = a } ∷ filter test (points_from (a + 1) n)) (filter test (points_from (a + 1) n))) ≡ false
     by true other rest = ap (λ (c : Bool). c || list_any (same_point point) (filter test (points_from (a + 1) n))) other ∙ rest
     by false other rest = rest
 
@@ -117,24 +118,26 @@ none_again test a (suc n) point below =
 record MayExecute (net : Plan) (so_far : PartialSchedule) (point : PointId) : Type 0 where
   pub within : IsPoint net point
   pub executable : is_none (activation net point) ≡ true
-  pub fresh : moment_so_far so_far point ≡ None
+  pub unexecuted : moment_so_far so_far point ≡ None
 
 may_act_more : (net : Plan) (so_far : PartialSchedule) (act : PointId) (acts : List PointId) → MayExecute net so_far act → list_any (same_point act) acts ≡ false → may_act net so_far acts ≡ true → may_act net so_far (act ∷ acts) ≡ true
 may_act_more net so_far act acts may once rest =
     let within : nat_lt act.0 (length net.points) ≡ true = lt-ltb act.0 (length net.points) may.within in
-    let fresh : is_none (moment_so_far so_far act) ≡ true = ap is_none may.fresh in
+    let unexecuted : is_none (moment_so_far so_far act) ≡ true = ap is_none may.unexecuted in
     let apart : not (list_any (same_point act) acts) ≡ true = ap not once in
     and_from (nat_lt act.0 (length net.points) && is_none (activation net act) && is_none (moment_so_far so_far act) && not (list_any (same_point act) acts)) (may_act net so_far acts)
     (and_from (nat_lt act.0 (length net.points) && is_none (activation net act) && is_none (moment_so_far so_far act)) (not (list_any (same_point act) acts))
     (and_from (nat_lt act.0 (length net.points) && is_none (activation net act)) (is_none (moment_so_far so_far act))
-    (and_from (nat_lt act.0 (length net.points)) (is_none (activation net act)) within may.executable) fresh) apart) rest
+    (and_from (nat_lt act.0 (length net.points)) (is_none (activation net act)) within may.executable) unexecuted) apart) rest
 
-may_act_among : (net : Plan) (so_far : PartialSchedule) (test : PointId → Bool) (a n : ℕ) → ((k : ℕ) → k < a + n → test (record { 0 = k }) ≡ true → MayExecute net so_far (record { 0 = k })) → may_act net so_far (filter test (points_from a n)) ≡ true
+may_act_among : (net : Plan) (so_far : PartialSchedule) (test : PointId → Bool) (a n : ℕ) → ((k : ℕ) → k < a + n → test (record { 0 = k }) ≡ true → MayExecute net so_far (record { 0 = k }))
+    → may_act net so_far (filter test (points_from a n)) ≡ true
 may_act_among net so_far test a zero may = refl
 may_act_among net so_far test a (suc n) may =
     by (test (record { 0 = a })) refl (may_act_among net so_far test (a + 1) n (λ k within. may k (omega (arith, within))))
   where
-    by : (b : Bool) → test (record { 0 = a }) ≡ b → may_act net so_far (filter test (points_from (a + 1) n)) ≡ true → may_act net so_far (cond b (record { 0 = a } ∷ filter test (points_from (a + 1) n)) (filter test (points_from (a + 1) n))) ≡ true
+    by : (b : Bool) → test (record { 0 = a }) ≡ b → may_act net so_far (filter test (points_from (a + 1) n)) ≡ true
+        → may_act net so_far (cond b (record { 0 = a } ∷ filter test (points_from (a + 1) n)) (filter test (points_from (a + 1) n))) ≡ true
     by true passes rest =
         may_act_more net so_far (record { 0 = a }) (filter test (points_from (a + 1) n)) (may a (omega arith) passes) (none_again test (a + 1) n (record { 0 = a }) (omega arith)) rest
     by false fails rest = rest
@@ -145,7 +148,7 @@ acts_allowed net schedule so_far t known =
     may_act_among net so_far (comes_acted net schedule t) 0 (length net.points) (λ k within passes.
     let (executable, comes) = and_parts (is_none (activation net (record { 0 = k }))) (moment_in schedule (record { 0 = k }) == t) passes in
     let now = eqb-true (moment_in schedule (record { 0 = k })) t comes in
-    record { within = omega (arith, within); executable = executable; fresh = known.not_yet (record { 0 = k }) (omega (arith, within)) (omega (arith, now)) })
+    record { within = omega (arith, within); executable = executable; unexecuted = known.not_yet (record { 0 = k }) (omega (arith, within)) (omega (arith, now)) })
 
 -- ---- the schedule that is made
 all_made : (moment : PointId → Option ℕ) (a : ℕ) (xs : List ℕ) → ((i : ℕ) → i < length xs → moment (record { 0 = a + i }) ≡ Some (slice_index xs i)) → all_some (map moment (points_from a (length xs))) ≡ Some xs
@@ -158,8 +161,9 @@ all_made moment a (x ∷ xs) each =
     subst (λ (k : ℕ). moment (record { 0 = k }) ≡ Some (slice_index xs i)) next (each (suc i) (omega (arith, within)))) in
     ap (λ (o : Option ℕ). all_some (o ∷ map moment (points_from (a + 1) (length xs)))) first ∙ ap (option_map (λ ys. x ∷ ys)) rest
 
--- where all moments are known the schedule is made
-pub made_of_known : (net : Plan) (schedule : List ℕ) (so_far : PartialSchedule) (t : ℕ) → length schedule ≡ length net.points → Known net schedule so_far t → ((point : PointId) → IsPoint net point → moment_in schedule point < t) → schedule_made net so_far ≡ Some schedule
+-- if all moments are known the schedule is made
+pub made_of_known : (net : Plan) (schedule : List ℕ) (so_far : PartialSchedule) (t : ℕ) → length schedule ≡ length net.points → Known net schedule so_far t → ((point : PointId) → IsPoint net point → moment_in schedule point < t)
+    → schedule_made net so_far ≡ Some schedule
 made_of_known net schedule so_far t size known past =
     subst (λ (n : ℕ). all_some (map (moment_so_far so_far) (points_from 0 n)) ≡ Some schedule) size (all_made (moment_so_far so_far) 0 schedule each)
   where
@@ -200,7 +204,8 @@ module _ (net : Plan) (situation schedule : List ℕ) (plan : IsPlan net) (is_si
       let here : moment_in schedule link.to ≡ moment_in schedule point = ap (moment_in schedule) ending.ends in
       let positive = at_least_1 net link duration sound fits in
       let found = known.before link.from sound.from_point (omega (arith, lasts, here, comes, positive)) in
-      completion_there so_far t net.links situation ending.name.0 link duration point ending.declared its (test_from_same link.to point ending.ends) (completes_at so_far t link duration (moment_in schedule link.from) found (omega (arith, lasts, here, comes)))
+      completion_there so_far t net.links situation ending.name.0 link duration point ending.declared its (test_from_same link.to point ending.ends)
+      (completes_at so_far t link duration (moment_in schedule link.from) found (omega (arith, lasts, here, comes)))
 
   -- what is completed are the contingent points that come then
   pub completed_is : completed net situation so_far t ≡ seen_in net schedule t

@@ -21,9 +21,9 @@ use Rattle.strategy_model.proofs.WalkLemmas.{loops_exclude}
 use Rattle.strategy_model.proofs.LongestLemmas.{longest_of, longest_situation}
 use Rattle.strategy_model.proofs.PlayLemmas.{link_sound}
 use Rattle.strategy_model.proofs.CompareLemmas.{own_size}
-use Rattle.strategy_model.proofs.RuleLemmas.{derivations_are_true}
+use Rattle.strategy_model.proofs.RuleLemmas.{law_derivations_are_true}
 
--- where every link takes its longest duration, that of each label does
+-- if every link takes its longest duration, that of each label does
 all_longest : (net : Plan) → IsPlan net → (label : Option LinkId) → TakesLongest net (longest_of net.links) label
 all_longest net plan None = tt
 all_longest net plan (Some label) = λ link duration declared lasts.
@@ -34,13 +34,14 @@ all_longest net plan (Some label) = λ link duration declared lasts.
     ap pos (sym (same_Some (nat_abs link.high) duration (longest ∙ lasts))) ∙ own_size link.high (omega (arith, ints, positive, interval))
 
 -- so true edges hold there
-true_edges_hold : (net : Plan) (strategy : Tree) (schedule : List ℕ) → IsPlan net → play strategy net (longest_of net.links) ≡ Some schedule → (edges : List Edge) → AllByRecursion (HoldsOf net strategy) edges → AllByRecursion (HoldsIn schedule) edges
+true_edges_hold : (net : Plan) (strategy : Tree) (schedule : List ℕ) → IsPlan net → play strategy net (longest_of net.links) ≡ Some schedule → (edges : List Edge) → AllByRecursion (HoldsOf net strategy) edges
+    → AllByRecursion (HoldsIn schedule) edges
 true_edges_hold net strategy schedule plan played [] all = tt
 true_edges_hold net strategy schedule plan played (edge ∷ edges) all =
     (all.0 (longest_of net.links) schedule (longest_situation net plan) (all_longest net plan edge.label) played, true_edges_hold net strategy schedule plan played edges all.1)
 
-pub loops_exclude_strategies : LoopsExcludeStrategies
-loops_exclude_strategies net strategy edges instant all loop controls =
+pub law_loops_exclude_strategies : LoopsExcludeStrategies
+law_loops_exclude_strategies net strategy edges instant all loop controls =
     let (schedule, played, satisfies) = controls (longest_of net.links) (longest_situation net instant.sound) in
     loops_exclude schedule edges loop (true_edges_hold net strategy schedule instant.sound played edges all)
 
@@ -49,11 +50,11 @@ pub walk_true : (net : Plan) (strategy : Tree) (edges walk : List Edge) → All 
 walk_true net strategy edges walk all among =
     All-weaker (Contains edges) (HoldsOf net strategy) (λ edge here. All-contains (HoldsOf net strategy) edges edge all here) walk among
 
-pub refutations_exclude_strategies : RefutationsExcludeStrategies
-refutations_exclude_strategies net edges walk instant derivation among loop controllable =
+pub law_refutations_exclude_strategies : RefutationsExcludeStrategies
+law_refutations_exclude_strategies net edges walk instant derivation among loop controllable =
     let (strategy, controls) = controllable in
-    let all = derivations_are_true net strategy edges instant controls derivation in
-    loops_exclude_strategies net strategy walk instant (recursion_from_All (HoldsOf net strategy) walk (walk_true net strategy edges walk all among)) loop controls
+    let all = law_derivations_are_true net strategy edges instant controls derivation in
+    law_loops_exclude_strategies net strategy walk instant (recursion_from_All (HoldsOf net strategy) walk (walk_true net strategy edges walk all among)) loop controls
 
 -- an edge from a point to a point without a label, or with that of an edge which ends where it ends
 ordinary_edge : (net : Plan) (edge : Edge) → IsPoint net edge.from → IsPoint net edge.to → edge.label ≡ None → IsEdge net edge
@@ -97,17 +98,17 @@ link_gives_edge net edge plan rule =
       labelled = subst (IsLabelled net edge) (sym rule.labelled) (rule.link, rule.declared, rule.to);
     }
 
-pub rules_keep_edges : RulesKeepEdges
-rules_keep_edges net earlier edge plan all (by_bound rule) = bound_gives_edge net edge plan rule
-rules_keep_edges net earlier edge plan all (by_link rule) = link_gives_edge net edge plan rule
-rules_keep_edges net earlier edge plan all (by_no_case first second first_among second_among rule) =
+pub law_rules_keep_edges : RulesKeepEdges
+law_rules_keep_edges net earlier edge plan all (by_bound rule) = bound_gives_edge net edge plan rule
+law_rules_keep_edges net earlier edge plan all (by_link rule) = link_gives_edge net edge plan rule
+law_rules_keep_edges net earlier edge plan all (by_no_case first second first_among second_among rule) =
     ordinary_edge net edge (subst (IsPoint net) (sym rule.from) (edge_of net earlier first all first_among).from_point) (subst (IsPoint net) (sym rule.to) (edge_of net earlier second all second_among).to_point) rule.ordinary
-rules_keep_edges net earlier edge plan all (by_upper_case first second first_among second_among rule) =
+law_rules_keep_edges net earlier edge plan all (by_upper_case first second first_among second_among rule) =
     labelled_edge net second edge (subst (IsPoint net) (sym rule.from) (edge_of net earlier first all first_among).from_point) (edge_of net earlier second all second_among) rule.to (rule.labelled ∙ sym rule.second_labelled)
-rules_keep_edges net earlier edge plan all (by_lower_case second among rule) =
+law_rules_keep_edges net earlier edge plan all (by_lower_case second among rule) =
     ordinary_edge net edge (subst (IsPoint net) (sym rule.from) (link_sound net plan rule.name.0 rule.link rule.declared).from_point) (subst (IsPoint net) (sym rule.to) (edge_of net earlier second all among).to_point) rule.ordinary
-rules_keep_edges net earlier edge plan all (by_cross_case second among rule) =
+law_rules_keep_edges net earlier edge plan all (by_cross_case second among rule) =
     labelled_edge net second edge (subst (IsPoint net) (sym rule.from) (link_sound net plan rule.name.0 rule.link rule.declared).from_point) (edge_of net earlier second all among) rule.to (rule.labelled ∙ sym rule.second_labelled)
-rules_keep_edges net earlier edge plan all (by_removal premise among rule) =
+law_rules_keep_edges net earlier edge plan all (by_removal premise among rule) =
     let sound = edge_of net earlier premise all among in
     ordinary_edge net edge (subst (IsPoint net) (sym rule.from) sound.from_point) (subst (IsPoint net) (sym rule.to) sound.to_point) rule.ordinary

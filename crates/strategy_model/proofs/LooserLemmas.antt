@@ -64,8 +64,8 @@ keep_looser schedule [] (other ∷ others) are kept = absurd are
 keep_looser schedule (bound ∷ bounds) [] are kept = absurd are
 keep_looser schedule (bound ∷ bounds) (other ∷ others) are kept = (keeps_looser schedule bound other are.0 kept.0, keep_looser schedule bounds others are.1 kept.1)
 
-pub looser_bounds_keep_control : LooserBoundsKeepControl
-looser_bounds_keep_control strategy net bounds looser controls situation is_situation =
+pub law_looser_bounds_keep_control : LooserBoundsKeepControl
+law_looser_bounds_keep_control strategy net bounds looser controls situation is_situation =
     let (schedule, played, satisfies) = controls situation is_situation in (
       schedule,
       same_play net bounds situation strategy ∙ played,

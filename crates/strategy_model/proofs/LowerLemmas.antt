@@ -16,16 +16,16 @@ use Rattle.net_model.specs.declared.part.Edge.{Edge}
 use Rattle.net_model.specs.declared.part.Link.{Link}
 use Rattle.strategy_model.specs.Situations.{IsSituation, moment_in}
 use Rattle.strategy_model.specs.Plays.{same_point, points_of}
-use Rattle.strategy_model.specs.Dispatch.{IsClosedList, IsOrder, HoldsBack, ComesAtOnce, IsDispatched, awaited, completion_in}
+use Rattle.strategy_model.specs.Dispatch.{IsClosedList, IsOrder, HoldsBack, ComesAtOnce, IsDispatched, release_moment, completion_in}
 use Rattle.strategy_model.specs.DispatchLaws.{DispatchedExist}
 use Rattle.strategy_model.proofs.MomentLemmas.{pick, same_from_test, test_from_same, point_at}
 use Rattle.strategy_model.proofs.StepLemmas.{points_length}
 use Rattle.strategy_model.proofs.PlayLemmas.{link_sound, one_link}
 use Rattle.strategy_model.proofs.CompareLemmas.{duration_of}
 use Rattle.strategy_model.proofs.ClosedLemmas.{edge_sound, label_sound}
-use Rattle.strategy_model.proofs.OrderLemmas.{rank, rank_within, falls_to, falls_to_activation}
+use Rattle.strategy_model.proofs.OrderLemmas.{rank, rank_within, descends_to, descends_to_activation}
 use Rattle.strategy_model.proofs.KindLemmas.{not_ending}
-use Rattle.strategy_model.proofs.ViolationLemmas.{bound_awaited, wait_awaited, completion_is}
+use Rattle.strategy_model.proofs.ViolationLemmas.{bound_release_moment, wait_release_moment, completion_is}
 
 -- an edge that holds a point back
 abbrev binds : PointId → Edge → Bool
@@ -66,7 +66,8 @@ pub lower_schedule : Plan → List Edge → List PointId → List ℕ → List �
 lower_schedule net edges order situation = map (value net edges situation (suc (length order))) (points_of net)
 
 -- ---- the moments decide
-latest_same : (situation : List ℕ) (first second : PointId → ℕ) (point : PointId) (edges : List Edge) → AllByRecursion (λ edge. binds point edge ≡ true → first edge.to ≡ second edge.to) edges → latest situation first point edges ≡ latest situation second point edges
+latest_same : (situation : List ℕ) (first second : PointId → ℕ) (point : PointId) (edges : List Edge) → AllByRecursion (λ edge. binds point edge ≡ true → first edge.to ≡ second edge.to) edges
+    → latest situation first point edges ≡ latest situation second point edges
 latest_same situation first second point [] same = refl
 latest_same situation first second point (edge ∷ edges) same =
     by (binds point edge) same.0 (latest_same situation first second point edges same.1)
@@ -77,13 +78,15 @@ latest_same situation first second point (edge ∷ edges) same =
     by true here rest = ap (λ (m : ℕ). max (m + delay situation edge) (latest situation first point edges)) (here refl) ∙ ap (max (second edge.to + delay situation edge)) rest
     by false here rest = rest
 
-ends_same : (first second : PointId → ℕ) (point : PointId) (links : List Link) (durations : List ℕ) → AllByRecursion (λ link. same_point link.to point ≡ true → first link.from ≡ second link.from) links → ends_at first point links durations ≡ ends_at second point links durations
+ends_same : (first second : PointId → ℕ) (point : PointId) (links : List Link) (durations : List ℕ) → AllByRecursion (λ link. same_point link.to point ≡ true → first link.from ≡ second link.from) links
+    → ends_at first point links durations ≡ ends_at second point links durations
 ends_same first second point [] durations same = refl
 ends_same first second point (link ∷ links) [] same = refl
 ends_same first second point (link ∷ links) (duration ∷ durations) same =
     by (same_point link.to point) same.0 (ends_same first second point links durations same.1)
   where
-    by : (b : Bool) → (b ≡ true → first link.from ≡ second link.from) → ends_at first point links durations ≡ ends_at second point links durations → cond b (Some (first link.from + duration)) (ends_at first point links durations) ≡ cond b (Some (second link.from + duration)) (ends_at second point links durations)
+    by : (b : Bool) → (b ≡ true → first link.from ≡ second link.from) → ends_at first point links durations ≡ ends_at second point links durations
+        → cond b (Some (first link.from + duration)) (ends_at first point links durations) ≡ cond b (Some (second link.from + duration)) (ends_at second point links durations)
     by true here rest = ap (λ (m : ℕ). Some (m + duration)) (here refl)
     by false here rest = rest
 
@@ -110,7 +113,8 @@ record Reaches (situation : List ℕ) (moment : PointId → ℕ) (point : PointI
   pub binding : binds point edge ≡ true
   pub is : moment edge.to + delay situation edge ≡ most
 
-later_reaches : (situation : List ℕ) (moment : PointId → ℕ) (point : PointId) (edge : Edge) (edges : List Edge) (least most : ℕ) → least ≡ most → Reaches situation moment point edges least → Reaches situation moment point (edge ∷ edges) most
+later_reaches : (situation : List ℕ) (moment : PointId → ℕ) (point : PointId) (edge : Edge) (edges : List Edge) (least most : ℕ) → least ≡ most → Reaches situation moment point edges least
+    → Reaches situation moment point (edge ∷ edges) most
 later_reaches situation moment point edge edges least most same reaches =
     record {
       edge = reaches.edge;
@@ -164,7 +168,8 @@ ends_by moment point (link ∷ links) (duration ∷ durations) at found =
     ]
 
 -- a point in which a link ends has a completion
-has_end : (moment : PointId → ℕ) (links : List Link) (durations : List ℕ) (place : ℕ) (link : Link) (duration : ℕ) → slice_get links place ≡ Some link → slice_get durations place ≡ Some duration → ends_at moment link.to links durations ≡ None → ⊥
+has_end : (moment : PointId → ℕ) (links : List Link) (durations : List ℕ) (place : ℕ) (link : Link) (duration : ℕ) → slice_get links place ≡ Some link → slice_get durations place ≡ Some duration
+    → ends_at moment link.to links durations ≡ None → ⊥
 has_end moment [] durations place link duration declared its none = absurd (none-some link declared)
 has_end moment (l ∷ links) [] place link duration declared its none = absurd (none-some duration its)
 has_end moment (l ∷ links) (d ∷ durations) zero link duration declared its none =
@@ -197,15 +202,16 @@ module _ (net : Plan) (edges : List Edge) (order : List PointId) (situation : Li
     where
       edges_same : All (λ edge. binds point edge ≡ true → first edge.to ≡ second edge.to) edges
       edges_same =
-          All-weaker (Contains edges) (λ edge. binds point edge ≡ true → first edge.to ≡ second edge.to) (λ edge among binding. before edge.to (falls_to net edges order plan closed ordered point edge (by_test point edge among binding))) edges (All-contains_itself edges)
+          All-weaker (Contains edges) (λ edge. binds point edge ≡ true → first edge.to ≡ second edge.to) (λ edge among binding. before edge.to (descends_to net edges order plan closed ordered point edge (by_test point edge among binding)))
+          edges (All-contains_itself edges)
 
       links_same : All (λ link. same_point link.to point ≡ true → first link.from ≡ second link.from) net.links
       links_same place other inside here =
           let link : Link = get_or net.links place other in
           let name : LinkId = record { 0 = place } in
-          let falls = falls_to_activation net edges order plan closed ordered name link (slice_get-get_or net.links place other inside) in
+          let descends = descends_to_activation net edges order plan closed ordered name link (slice_get-get_or net.links place other inside) in
           let same : rank order link.to ≡ rank order point = ap (rank order) (same_from_test link.to point here) in
-          before link.from (omega (arith, falls, same))
+          before link.from (omega (arith, descends, same))
 
   stable : (limit other : ℕ) (point : PointId) → rank order point < limit → rank order point < other → value net edges situation limit point ≡ value net edges situation other point
   stable zero other point within within_other = absurd (omega (arith, within))
@@ -266,7 +272,7 @@ module _ (net : Plan) (edges : List Edge) (order : List PointId) (situation : Li
       let sound = link_sound net plan name.0 link declared in
       completion_is net schedule name link declared ∙ schedule_at link.to sound.to_point ∙ ends_after name link duration declared its ∙ ap (λ (d : ℕ). moment link.from + d) (sym at)
 
-  awaits : (edge : Edge) → Contains edges edge → awaited net schedule edge ≡ moment edge.to + delay situation edge
+  awaits : (edge : Edge) → Contains edges edge → release_moment net schedule edge ≡ moment edge.to + delay situation edge
   awaits edge among = by edge.label refl
     where
       to : moment_in schedule edge.to ≡ moment edge.to
@@ -276,13 +282,13 @@ module _ (net : Plan) (edges : List Edge) (order : List PointId) (situation : Li
       delays label is =
           ap (λ (o : Option LinkId). option_map_or (λ name. min (slice_index situation name.0) (unsigned_abs edge.weight)) o (unsigned_abs edge.weight)) is
 
-      by : (label : Option LinkId) → edge.label ≡ label → awaited net schedule edge ≡ moment edge.to + delay situation edge
+      by : (label : Option LinkId) → edge.label ≡ label → release_moment net schedule edge ≡ moment edge.to + delay situation edge
       by None ordinary =
-          let asks = bound_awaited net schedule edge ordinary in
+          let asks = bound_release_moment net schedule edge ordinary in
           let delayed = delays None ordinary in
           omega (arith, asks, delayed, to)
       by (Some name) labelled =
-          let asks = wait_awaited net schedule edge name labelled in
+          let asks = wait_release_moment net schedule edge name labelled in
           let delayed = delays (Some name) labelled in
           let (link, declared, ends) = label_sound net edges closed edge name among labelled in
           let completes = completes_after name link declared in
@@ -294,7 +300,8 @@ module _ (net : Plan) (edges : List Edge) (order : List PointId) (situation : Li
       let is = schedule_at point executable.0 ∙ moment_is_latest point executable in
       record {
         not_before = λ edge holds.
-            let all = All-from_recursion (λ edge. binds point edge ≡ true → moment edge.to + delay situation edge ≤ latest situation moment point edges) edges (not_above situation moment point (latest situation moment point edges) edges (omega arith)) in
+            let all = All-from_recursion (λ edge. binds point edge ≡ true → moment edge.to + delay situation edge ≤ latest situation moment point edges) edges
+            (not_above situation moment point (latest situation moment point edges) edges (omega arith)) in
             let below = All-contains (λ edge. binds point edge ≡ true → moment edge.to + delay situation edge ≤ latest situation moment point edges) edges edge all holds.among (to_test point edge holds) in
             let asks = awaits edge holds.among in
             omega (arith, is, below, asks);
@@ -314,11 +321,12 @@ module _ (net : Plan) (edges : List Edge) (order : List PointId) (situation : Li
         schedule_at link.to sound.to_point ∙ ends_after name link duration declared its ∙ ap (λ (m : ℕ). m + duration) (sym (schedule_at link.from sound.from_point));
   }
 
-pub lower_is_dispatched : (net : Plan) (edges : List Edge) (order : List PointId) (situation : List ℕ) → IsPlan net → IsClosedList net edges → IsOrder net edges order → IsSituation net situation → IsDispatched net edges situation (lower_schedule net edges order situation)
+pub lower_is_dispatched : (net : Plan) (edges : List Edge) (order : List PointId) (situation : List ℕ) → IsPlan net → IsClosedList net edges → IsOrder net edges order → IsSituation net situation
+    → IsDispatched net edges situation (lower_schedule net edges order situation)
 unfolding lower_schedule
 lower_is_dispatched net edges order situation plan closed ordered is_situation =
     is_dispatched net edges order situation plan closed ordered is_situation
 
-pub dispatched_exist : DispatchedExist
-dispatched_exist net edges order situation instant closed ordered is_situation =
+pub law_dispatched_exist : DispatchedExist
+law_dispatched_exist net edges order situation instant closed ordered is_situation =
     (lower_schedule net edges order situation, lower_is_dispatched net edges order situation instant.sound closed ordered is_situation)

@@ -1,6 +1,5 @@
--- The moments that points have so far: of two parts of a partial schedule the first decides, and the second where the first has no
--- moment; points that are executed at a moment have it, and are executable; and the schedule that is made of all moments has one for
--- each point.
+-- The moments that points have so far: of two parts of a partial schedule the first decides, and the second if the first has no moment;
+-- points that are executed at a moment have it, and are executable; and the schedule that is made of all moments has one for each point.
 use Rattle.std.proofs.Common.{◌≡◌, ℕ, zero, suc, ◌+◌, ◌<◌, ◌&&◌, Bool, true, false, cond, not, List, [], ◌∷◌, ◌++◌, length, map, Option, Some, None, ◌⊎◌, inl, inr, refl, sym, ap, subst, ◌∙◌, arith}
 use Rattle.std.specs.Prelude.{slice_get, is_none, nat_lt, filter}
 use Rattle.std.specs.List.{list_any, range_with_len, position_or_len, slice_index}
@@ -113,7 +112,7 @@ contingent net i link found =
     let within = lt-ltb (position_or_len test net.links) (length net.links) (passes_within test net.links i link found passes) in
     subst (λ (b : Bool). is_none (option_map (λ k. let label : LinkId = record { 0 = k } in label) (cond b (Some (position_or_len test net.links)) None)) ≡ false) (sym within) refl
 
--- all of the options are there only where they are those of the list
+-- all of the options are there only if they are those of the list
 all_there : (options : List (Option ℕ)) (xs : List ℕ) → all_some options ≡ Some xs → options ≡ map Some xs
 all_there [] xs made = ap (map Some) (same_Some [] xs made)
 all_there (None ∷ options) xs made = absurd (none-some xs made)

@@ -1,4 +1,4 @@
--- The place of a point in an order: along every negative edge, labelled or not, it falls.
+-- The place of a point in an order: along every negative edge, labelled or not, it decreases.
 use Rattle.std.proofs.Common.{◌≡◌, ℕ, pos, ◌<◌, ◌<ℤ◌, List, Option, Some, None, length, get_or, refl, ap, sym, ◌∙◌, arith, true, inl, inr}
 use Rattle.std.specs.Prelude.{slice_get}
 use Rattle.std.specs.List.{Contains, position_or_len}
@@ -13,7 +13,7 @@ use Rattle.net_model.specs.declared.ids.PointId.{PointId}
 use Rattle.net_model.specs.declared.ids.LinkId.{LinkId}
 use Rattle.net_model.specs.declared.part.Edge.{Edge}
 use Rattle.net_model.specs.declared.part.Link.{Link}
-use Rattle.net_model.proofs.ApplyingLemmas.{negative_holds}
+use Rattle.net_model.proofs.AppliedRuleLemmas.{negative_holds}
 use Rattle.strategy_model.specs.Plays.{same_point}
 use Rattle.strategy_model.specs.Dispatch.{IsClosedList, IsOrder, HoldsBack}
 use Rattle.strategy_model.proofs.MomentLemmas.{same_from_test, test_from_same}
@@ -40,47 +40,48 @@ rank_is order point among =
     slice_get-get_or order (rank order point) point within ∙ ap (λ (p : PointId). Some p) (sym same)
 
 module _ (net : Plan) (edges : List Edge) (order : List PointId) (plan : IsPlan net) (closed : IsClosedList net edges) (ordered : IsOrder net edges order) where
-  falls_along : (edge : Edge) → Contains edges edge → edge.label ≡ None → edge.weight <ℤ pos 0 → rank order edge.to < rank order edge.from
-  falls_along edge among ordinary negative =
+  descends_along : (edge : Edge) → Contains edges edge → edge.label ≡ None → edge.weight <ℤ pos 0 → rank order edge.to < rank order edge.from
+  descends_along edge among ordinary negative =
       let sound = edge_sound net edges closed edge among in
       let is_ordinary_holds : is_ordinary edge ≡ true = rw ordinary refl in
-      ordered.falls edge (rank order edge.from) (rank order edge.to) among (is_ordinary_holds, negative_holds edge negative) (rank_is order edge.from (ordered.complete edge.from sound.from_point)) (rank_is order edge.to (ordered.complete edge.to sound.to_point))
+      ordered.descends edge (rank order edge.from) (rank order edge.to) among (is_ordinary_holds, negative_holds edge negative) (rank_is order edge.from (ordered.complete edge.from sound.from_point))
+      (rank_is order edge.to (ordered.complete edge.to sound.to_point))
 
   -- along a negative labelled edge, since removal gives a negative ordinary one
-  falls_along_wait : (edge : Edge) (name : LinkId) → Contains edges edge → edge.label ≡ Some name → edge.weight <ℤ pos 0 → rank order edge.to < rank order edge.from
-  falls_along_wait edge name among labelled negative =
+  descends_along_wait : (edge : Edge) (name : LinkId) → Contains edges edge → edge.label ≡ Some name → edge.weight <ℤ pos 0 → rank order edge.to < rank order edge.from
+  descends_along_wait edge name among labelled negative =
       let (link, declared, ends) = label_sound net edges closed edge name among labelled in
       let stands = stands_removal net edges closed name link edge declared among labelled in
       let positive = (link_sound net plan name.0 link declared).positive in
       let at_most = stands.at_most in
       let below : stands.entry.weight <ℤ pos 0 = grind (arith, ints, int_max_is) in
-      let falls = falls_along stands.entry stands.among stands.label below in
+      let descends = descends_along stands.entry stands.among stands.label below in
       let from : rank order stands.entry.from ≡ rank order edge.from = ap (rank order) stands.from in
       let to : rank order stands.entry.to ≡ rank order edge.to = ap (rank order) stands.to in
-      omega (arith, falls, from, to)
+      omega (arith, descends, from, to)
 
   -- along whatever holds a point back
-  pub falls_to : (point : PointId) (edge : Edge) → HoldsBack edges point edge → rank order edge.to < rank order point
-  falls_to point edge holds =
+  pub descends_to : (point : PointId) (edge : Edge) → HoldsBack edges point edge → rank order edge.to < rank order point
+  descends_to point edge holds =
       let negative = below_zero edge holds.negative in
       let from : rank order edge.from ≡ rank order point = ap (rank order) holds.begins in
-      let falls = by edge.label refl negative in
-      omega (arith, falls, from)
+      let descends = by edge.label refl negative in
+      omega (arith, descends, from)
     where
       by : (label : Option LinkId) → edge.label ≡ label → edge.weight <ℤ pos 0 → rank order edge.to < rank order edge.from
-      by None ordinary negative = falls_along edge holds.among ordinary negative
-      by (Some name) labelled negative = falls_along_wait edge name holds.among labelled negative
+      by None ordinary negative = descends_along edge holds.among ordinary negative
+      by (Some name) labelled negative = descends_along_wait edge name holds.among labelled negative
 
   -- from a contingent point to its activation point
-  pub falls_to_activation : (name : LinkId) (link : Link) → IsLinkOf net name link → rank order link.from < rank order link.to
-  falls_to_activation name link declared =
+  pub descends_to_activation : (name : LinkId) (link : Link) → IsLinkOf net name link → rank order link.from < rank order link.to
+  descends_to_activation name link declared =
       let stands = stands_link net edges closed name link declared in
       let sound = link_sound net plan name.0 link declared in
       let positive = sound.positive in
       let interval = sound.interval in
       let at_most = stands.at_most in
       let below : stands.entry.weight <ℤ pos 0 = omega (arith, ints, positive, interval, at_most) in
-      let falls = falls_along_wait stands.entry name stands.among stands.label below in
+      let descends = descends_along_wait stands.entry name stands.among stands.label below in
       let from : rank order stands.entry.from ≡ rank order link.to = ap (rank order) stands.from in
       let to : rank order stands.entry.to ≡ rank order link.from = ap (rank order) stands.to in
-      omega (arith, falls, from, to)
+      omega (arith, descends, from, to)

@@ -25,7 +25,7 @@ pub unknown_later : (so_far : PartialSchedule) (t : ℕ) (seen acts : List Point
 unknown_later so_far t seen acts p missing =
     ap (λ (ms : PartialSchedule). moment_so_far ms p) (append_assoc so_far (at_moment t seen) (at_moment t acts)) ∙ found_later so_far (at_moment t seen ++ at_moment t acts) p missing
 
--- What holds at the end of a play and of each moment where it held after it holds at the beginning.
+-- What holds at the end of a play, and holds at a moment if it holds after it, holds at the beginning.
 module _ (net : Plan) (situation schedule : List ℕ) (M : PartialSchedule → ℕ → Type 0) (at_end : (so_far : PartialSchedule) (t : ℕ) → schedule_made net so_far ≡ Some schedule → M so_far t)
     (at_moment' : (so_far : PartialSchedule) (t : ℕ) (acts : List PointId) → may_act net so_far acts ≡ true → M (and_moment so_far t (completed net situation so_far t) acts) (t + 1) → M so_far t) where
   mutual
@@ -72,7 +72,8 @@ goes_on_before net schedule so_far t seen acts after =
       later = λ p within missing. go p within (unknown_later so_far t seen acts p missing) (moment_so_far (at_moment t seen ++ at_moment t acts) p) refl;
     }
   where
-    go : (p : PointId) → p.0 < length net.points → moment_so_far (and_moment so_far t seen acts) p ≡ moment_so_far (at_moment t seen ++ at_moment t acts) p → (o : Option ℕ) → moment_so_far (at_moment t seen ++ at_moment t acts) p ≡ o → t ≤ slice_index schedule p.0
+    go : (p : PointId) → p.0 < length net.points → moment_so_far (and_moment so_far t seen acts) p ≡ moment_so_far (at_moment t seen ++ at_moment t acts) p → (o : Option ℕ) → moment_so_far (at_moment t seen ++ at_moment t acts) p ≡ o
+        → t ≤ slice_index schedule p.0
     go p within is None missing = let h = after.later p within (is ∙ missing) in omega (arith, h)
     go p within is (Some m) found =
         let h = after.kept p m within (is ∙ found) in
@@ -127,7 +128,8 @@ Follow net situation so_far =
     (i : ℕ) (link : Link) (duration m : ℕ) → slice_get net.links i ≡ Some link → slice_get situation i ≡ Some duration → moment_so_far so_far link.to ≡ Some m → (a : ℕ) × (moment_so_far so_far link.from ≡ Some a) × (a + duration ≡ m)
 
 -- the point of a link that is completed gets the moment of its activation and its duration
-completion_follows : (net : Plan) → IsPlan net → (situation : List ℕ) (so_far : PartialSchedule) (t i : ℕ) (link : Link) (duration : ℕ) → slice_get net.links i ≡ Some link → slice_get situation i ≡ Some duration → is_completed so_far t net.links situation link.to ≡ true → (a : ℕ) × (moment_so_far so_far link.from ≡ Some a) × (a + duration ≡ t)
+completion_follows : (net : Plan) → IsPlan net → (situation : List ℕ) (so_far : PartialSchedule) (t i : ℕ) (link : Link) (duration : ℕ) → slice_get net.links i ≡ Some link → slice_get situation i ≡ Some duration
+    → is_completed so_far t net.links situation link.to ≡ true → (a : ℕ) × (moment_so_far so_far link.from ≡ Some a) × (a + duration ≡ t)
 completion_follows net plan situation so_far t i link duration declared lasts done =
     let (j, other, its, its_declared, its_lasts, same, its_done) = completed_means so_far t net.links situation link.to done in
     let equal : j ≡ i = one_link net plan j i other link its_declared declared (eqb-true other.to.0 link.to.0 same) in
@@ -142,7 +144,8 @@ module _ (net : Plan) (plan : IsPlan net) (situation : List ℕ) (so_far : Parti
       (known.0, known_stays so_far t (completed net situation so_far t) acts link.from known.0 known.1, known.2)
 
   -- a contingent point that gets moment t is completed then
-  new_is_completed : (i : ℕ) (link : Link) (m : ℕ) → slice_get net.links i ≡ Some link → moment_so_far (at_moment t (completed net situation so_far t) ++ at_moment t acts) link.to ≡ Some m → is_completed so_far t net.links situation link.to ≡ true
+  new_is_completed : (i : ℕ) (link : Link) (m : ℕ) → slice_get net.links i ≡ Some link → moment_so_far (at_moment t (completed net situation so_far t) ++ at_moment t acts) link.to ≡ Some m
+      → is_completed so_far t net.links situation link.to ≡ true
   new_is_completed i link m declared found = go (moment_so_far (at_moment t seen) link.to) refl
     where
       seen : List PointId
@@ -167,7 +170,8 @@ module _ (net : Plan) (plan : IsPlan net) (situation : List ℕ) (so_far : Parti
       go None missing =
           let here = sym (unknown_later so_far t seen acts link.to missing) ∙ found in
           let same : t ≡ m = new_moment t seen acts link.to m here in
-          stays link duration m (subst (λ (k : ℕ). (a : ℕ) × (moment_so_far so_far link.from ≡ Some a) × (a + duration ≡ k)) same (completion_follows net plan situation so_far t i link duration declared lasts (new_is_completed i link m declared here)))
+          stays link duration m (subst (λ (k : ℕ). (a : ℕ) × (moment_so_far so_far link.from ≡ Some a) × (a + duration ≡ k)) same
+          (completion_follows net plan situation so_far t i link duration declared lasts (new_is_completed i link m declared here)))
 
 -- a link of a network is sound
 pub link_sound : (net : Plan) → IsPlan net → (i : ℕ) (link : Link) → slice_get net.links i ≡ Some link → IsLink net link
@@ -187,9 +191,11 @@ lasting_at_end net plan situation schedule so_far made follow i link duration de
     let lasted = known.2 in
     omega (arith, began, lasted)
 
-pub lasting : (net : Plan) → IsPlan net → (situation schedule : List ℕ) (tree : Tree) (so_far : PartialSchedule) (t : ℕ) → instant_from tree net situation so_far t ≡ Some schedule → Follow net situation so_far → Lasting net situation schedule
+pub lasting : (net : Plan) → IsPlan net → (situation schedule : List ℕ) (tree : Tree) (so_far : PartialSchedule) (t : ℕ) → instant_from tree net situation so_far t ≡ Some schedule → Follow net situation so_far
+    → Lasting net situation schedule
 lasting net plan situation schedule =
-    along net situation schedule (λ so_far t. Follow net situation so_far → Lasting net situation schedule) (λ so_far t made. lasting_at_end net plan situation schedule so_far made) (λ so_far t acts may after before. after (follow_after net plan situation so_far t acts may before))
+    along net situation schedule (λ so_far t. Follow net situation so_far → Lasting net situation schedule) (λ so_far t made. lasting_at_end net plan situation schedule so_far made)
+    (λ so_far t acts may after before. after (follow_after net plan situation so_far t acts may before))
 
 -- nothing has a moment at the beginning
 pub follow_at_first : (net : Plan) (situation : List ℕ) → Follow net situation []

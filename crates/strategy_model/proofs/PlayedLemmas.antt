@@ -17,7 +17,7 @@ use Rattle.strategy_model.specs.declared.tree.Tree.{Tree, Leaf, Node', Row_of-Ca
 use Rattle.strategy_model.proofs.InstantLemmas.{as_instant}
 use Rattle.strategy_model.proofs.PlayLemmas.{and_moment, known_stays, unknown_later, new_moment, GoesOn, goes_on, Lasting, lasting, follow_at_first}
 use Rattle.strategy_model.proofs.AgreeLemmas.{both, played_length}
-use Rattle.strategy_model.proofs.CompareLemmas.{completion_follows_activation}
+use Rattle.strategy_model.proofs.CompareLemmas.{law_completion_follows_activation}
 use Rattle.strategy_model.proofs.KindLemmas.{kind_of_any}
 use Rattle.strategy_model.proofs.KnownLemmas.{Known, comes_seen, seen_in, same_tests, completed_is}
 
@@ -55,7 +55,7 @@ known_in_play net schedule so_far t before goes = record {
         let early = before point m known in
         absurd (omega (arith, kept, early, later))
 
--- where the completions up to a moment are the same, the same points are seen at it
+-- if the completions up to a moment are the same, the same points are seen at it
 same_seen : (net : Plan) (first second : List ℕ) (t m : ℕ) → SameCompletions net t first second → m ≤ t → seen_in net first m ≡ seen_in net second m
 same_seen net first second t m same within =
     filter_agree (comes_seen net first m) (comes_seen net second m) (λ point. same_tests (comes_seen net first m point) (comes_seen net second m point) (there point) (back point)) (points_of net)
@@ -102,7 +102,8 @@ module _ (net : Plan) (ds es first second : List ℕ) (t : ℕ) (alike : Complet
           (λ by_then. absurd (omega (arith, later, by_then, past)), λ by_then. absurd (omega (arith, later_too, by_then, past)))
 
   mutual
-    pub agree_up_to : (tree : Tree) (so_far : PartialSchedule) (m : ℕ) → Before so_far m → instant_from tree net ds so_far m ≡ Some first → instant_from tree net es so_far m ≡ Some second → (point : PointId) → IsPoint net point → AgreeUpTo t (moment_in first point) (moment_in second point)
+    pub agree_up_to : (tree : Tree) (so_far : PartialSchedule) (m : ℕ) → Before so_far m → instant_from tree net ds so_far m ≡ Some first → instant_from tree net es so_far m ≡ Some second → (point : PointId) → IsPoint net point
+        → AgreeUpTo t (moment_in first point) (moment_in second point)
     agree_up_to Leaf so_far m before played_first played_second point within =
         let is : moment_in first point ≡ moment_in second point = ap (λ (s : List ℕ). moment_in s point) (same_Some first second (sym played_first ∙ played_second)) in
         (λ by_then. is, λ by_then. is)
@@ -118,11 +119,13 @@ module _ (net : Plan) (ds es first second : List ℕ) (t : ℕ) (alike : Complet
               agree_among cases so_far m before (completed net ds so_far m) played_first (subst (λ (points : List PointId). instant_cases cases net es so_far m points ≡ Some second) (sym one) played_second) point within
         ]
 
-    agree_among : {n : _} (cases : Row_of-Case n) (so_far : PartialSchedule) (m : ℕ) → Before so_far m → (points : List PointId) → instant_cases cases net ds so_far m points ≡ Some first → instant_cases cases net es so_far m points ≡ Some second → (point : PointId) → IsPoint net point → AgreeUpTo t (moment_in first point) (moment_in second point)
+    agree_among : {n : _} (cases : Row_of-Case n) (so_far : PartialSchedule) (m : ℕ) → Before so_far m → (points : List PointId) → instant_cases cases net ds so_far m points ≡ Some first
+        → instant_cases cases net es so_far m points ≡ Some second → (point : PointId) → IsPoint net point → AgreeUpTo t (moment_in first point) (moment_in second point)
     agree_among end_of-Case so_far m before points played_first played_second point within = absurd (none-some first played_first)
     agree_among (more_of-Case seen acts next others) so_far m before points played_first played_second point within =
         let and_now = and_moment so_far m seen acts in
-        elim (both (pointwise same_point seen points) (cond (may_act net so_far acts) (instant_from next net ds and_now (m + 1)) None) (instant_cases others net ds so_far m points) (cond (may_act net so_far acts) (instant_from next net es and_now (m + 1)) None) (instant_cases others net es so_far m points) played_first played_second) [
+        elim (both (pointwise same_point seen points) (cond (may_act net so_far acts) (instant_from next net ds and_now (m + 1)) None) (instant_cases others net ds so_far m points)
+        (cond (may_act net so_far acts) (instant_from next net es and_now (m + 1)) None) (instant_cases others net es so_far m points) played_first played_second) [
           | inl here ↦ elim (both (may_act net so_far acts) (instant_from next net ds and_now (m + 1)) None (instant_from next net es and_now (m + 1)) None here.0 here.1) [
             | inl may ↦ agree_up_to next and_now (m + 1) (before_next so_far m seen acts before) may.0 may.1 point within
             | inr refused ↦ absurd (none-some first refused.0)
@@ -130,13 +133,13 @@ module _ (net : Plan) (ds es first second : List ℕ) (t : ℕ) (alike : Complet
           | inr later ↦ agree_among others so_far m before points later.0 later.1 point within
         ]
 
-pub trees_are_dynamic : TreesAreDynamic
-trees_are_dynamic net strategy schedule_of instant played =
+pub law_trees_are_dynamic : TreesAreDynamic
+law_trees_are_dynamic net strategy schedule_of instant played =
     let instantly : (situation : List ℕ) → IsSituation net situation → instant_from strategy net situation [] 0 ≡ Some (schedule_of situation) =
     λ situation is_situation. as_instant net strategy situation (schedule_of situation) instant (played situation is_situation) in
     record {
       complete = λ situation is_situation. played_length net situation (schedule_of situation) strategy [] 0 (instantly situation is_situation);
-      lasting = λ situation name link duration is_situation. completion_follows_activation net strategy situation (schedule_of situation) name link duration instant (played situation is_situation);
+      lasting = λ situation name link duration is_situation. law_completion_follows_activation net strategy situation (schedule_of situation) name link duration instant (played situation is_situation);
       seen_alone = λ first second t is_first is_second same point executable. agree_up_to net first second (schedule_of first) (schedule_of second) t (record {
         plan = instant.sound;
         first_situation = is_first;

@@ -21,7 +21,7 @@ use Rattle.strategy_model.specs.Laws.{BoundKeepsTruth, LinkKeepsTruth, NoCaseKee
 use Rattle.strategy_model.specs.declared.tree.Tree.{Tree}
 use Rattle.strategy_model.proofs.BoundLemmas.{edge_of_bound_holds}
 use Rattle.strategy_model.proofs.PlayLemmas.{link_sound}
-use Rattle.strategy_model.proofs.CompareLemmas.{completion_follows_activation, own_size, duration_of, Compared, compared}
+use Rattle.strategy_model.proofs.CompareLemmas.{law_completion_follows_activation, own_size, duration_of, Compared, compared}
 
 -- the play of a controlling strategy satisfies the network
 satisfied : (net : Plan) (strategy : Tree) (situation schedule : List ℕ) → Controls strategy net → IsSituation net situation → play strategy net situation ≡ Some schedule → Satisfies net schedule
@@ -29,22 +29,23 @@ satisfied net strategy situation schedule controls is_situation played =
     let (made, made_played, satisfies) = controls situation is_situation in
     subst (Satisfies net) (same_Some made schedule (sym made_played ∙ played)) satisfies
 
-pub bound_keeps_truth : BoundKeepsTruth
-bound_keeps_truth net strategy edge instant controls rule situation schedule is_situation longest played =
+pub law_bound_keeps_truth : BoundKeepsTruth
+law_bound_keeps_truth net strategy edge instant controls rule situation schedule is_situation longest played =
     edge_of_bound_holds net schedule (satisfied net strategy situation schedule controls is_situation played) edge rule
 
-pub link_keeps_truth : LinkKeepsTruth
-link_keeps_truth net strategy edge instant controls rule situation schedule is_situation longest played =
+pub law_link_keeps_truth : LinkKeepsTruth
+law_link_keeps_truth net strategy edge instant controls rule situation schedule is_situation longest played =
     let (duration, lasts, fits) = duration_of net.links situation rule.name.0 rule.link is_situation rule.declared in
     let is_longest : pos duration ≡ rule.link.high = (subst (TakesLongest net situation) rule.labelled longest) rule.link duration rule.declared lasts in
-    let completes = completion_follows_activation net strategy situation schedule rule.name rule.link duration instant played rule.declared lasts in
+    let completes = law_completion_follows_activation net strategy situation schedule rule.name rule.link duration instant played rule.declared lasts in
     let from : moment_in schedule edge.from ≡ moment_in schedule rule.link.to = ap (moment_in schedule) rule.from in
     let to : moment_in schedule edge.to ≡ moment_in schedule rule.link.from = ap (moment_in schedule) rule.to in
     let looser = rule.looser in
     omega (arith, ints, is_longest, completes, from, to, looser)
 
--- two edges that meet, and a looser one over both
-joined : (schedule : List ℕ) (first second edge : Edge) → HoldsIn schedule first → HoldsIn schedule second → first.to ≡ second.from → edge.from ≡ first.from → edge.to ≡ second.to → (first.weight +ℤ second.weight) ≤ℤ edge.weight → HoldsIn schedule edge
+-- two consecutive edges, and a looser one over both
+joined : (schedule : List ℕ) (first second edge : Edge) → HoldsIn schedule first → HoldsIn schedule second → first.to ≡ second.from → edge.from ≡ first.from → edge.to ≡ second.to → (first.weight +ℤ second.weight) ≤ℤ edge.weight
+    → HoldsIn schedule edge
 joined schedule first second edge holds_first holds_second meet from to looser =
     let same_meet : moment_in schedule first.to ≡ moment_in schedule second.from = ap (moment_in schedule) meet in
     let same_from : moment_in schedule edge.from ≡ moment_in schedule first.from = ap (moment_in schedule) from in
@@ -59,13 +60,15 @@ free net situation label ordinary = subst (TakesLongest net situation) (sym ordi
 same_label : (net : Plan) (situation : List ℕ) (label other : Option LinkId) → label ≡ other → TakesLongest net situation label → TakesLongest net situation other
 same_label net situation label other same longest = subst (TakesLongest net situation) same longest
 
-pub no_case_keeps_truth : NoCaseKeepsTruth
-no_case_keeps_truth net strategy first second edge instant controls holds_first holds_second rule situation schedule is_situation longest played =
-    joined schedule first second edge (holds_first situation schedule is_situation (free net situation first.label rule.first_ordinary) played) (holds_second situation schedule is_situation (free net situation second.label rule.second_ordinary) played) rule.meet rule.from rule.to rule.looser
+pub law_no_case_keeps_truth : NoCaseKeepsTruth
+law_no_case_keeps_truth net strategy first second edge instant controls holds_first holds_second rule situation schedule is_situation longest played =
+    joined schedule first second edge (holds_first situation schedule is_situation (free net situation first.label rule.first_ordinary) played)
+    (holds_second situation schedule is_situation (free net situation second.label rule.second_ordinary) played) rule.meet rule.from rule.to rule.looser
 
-pub upper_case_keeps_truth : UpperCaseKeepsTruth
-upper_case_keeps_truth net strategy first second edge instant controls holds_first holds_second rule situation schedule is_situation longest played =
-    joined schedule first second edge (holds_first situation schedule is_situation (free net situation first.label rule.first_ordinary) played) (holds_second situation schedule is_situation (same_label net situation edge.label second.label (rule.labelled ∙ sym rule.second_labelled) longest) played) rule.meet rule.from rule.to rule.looser
+pub law_upper_case_keeps_truth : UpperCaseKeepsTruth
+law_upper_case_keeps_truth net strategy first second edge instant controls holds_first holds_second rule situation schedule is_situation longest played =
+    joined schedule first second edge (holds_first situation schedule is_situation (free net situation first.label rule.first_ordinary) played)
+    (holds_second situation schedule is_situation (same_label net situation edge.label second.label (rule.labelled ∙ sym rule.second_labelled) longest) played) rule.meet rule.from rule.to rule.looser
 
 -- the shortest duration of a link, as a number
 shortest_is_duration : (net : Plan) (link : Link) → IsLink net link → IsDuration link (nat_abs link.low)
@@ -89,7 +92,7 @@ longest_there net other name link declared lasts longest its duration its_declar
     ap pos same_duration ∙ longest ∙ ap (λ (l : Link). l.high) same_link
 
 module _ (net : Plan) (strategy : Tree) (name : LinkId) (link : Link) where
-  -- A point that comes before a link's completion where the link is shortest comes at the same moment where it isn't.
+  -- A point that comes before a link's completion when the link is shortest comes at the same moment when it isn't.
   after_shortest : (situation schedule : List ℕ) → IsLink net link
       → (both : Compared net strategy name link situation schedule (nat_abs link.low)) → (second edge : Edge) → HoldsIn both.other_schedule second → second.from ≡ link.to → second.weight <ℤ pos 0
       → edge.from ≡ link.from → edge.to ≡ second.to → (link.low +ℤ second.weight) ≤ℤ edge.weight → HoldsIn schedule edge
@@ -105,7 +108,7 @@ module _ (net : Plan) (strategy : Tree) (name : LinkId) (link : Link) where
       let same_end : moment_in schedule second.to ≡ moment_in both.other_schedule second.to = both.agree_back second.to (omega (arith, ints, holds, begins_in, negative, same_activation, completes, other_completes, low, shortest)) in
       omega (arith, ints, holds, begins_in, from_in, to_in, same_activation, other_completes, shortest, same_end, looser)
 
-  -- a point that comes before a link's completion comes at the same moment where the link is longest
+  -- a point that comes before a link's completion comes at the same moment when the link is longest
   beside_longest : (situation schedule : List ℕ) → IsLink net link
       → (both : Compared net strategy name link situation schedule (nat_abs link.high)) → (premise : Edge) → HoldsIn both.other_schedule premise → premise.to ≡ link.from
       → moment_in schedule premise.from < moment_in schedule link.to → HoldsIn schedule premise
@@ -122,7 +125,7 @@ module _ (net : Plan) (strategy : Tree) (name : LinkId) (link : Link) where
       let same : moment_in schedule premise.from ≡ moment_in both.other_schedule premise.from = both.agree premise.from (omega (arith, ints, before, same_activation, completes, other_completes, high, longest)) in
       omega (arith, ints, holds, ends_in, ends_there, same_activation, same)
 
-  -- a labelled edge that is true holds wherever its first point comes before its label's completion
+  -- a labelled edge that is true holds whenever its first point comes before its label's completion
   pub wait_kept : (premise : Edge) (situation schedule : List ℕ) → IsInstant net → Controls strategy net → HoldsOf net strategy premise
       → premise.label ≡ Some name → IsLinkOf net name link → premise.to ≡ link.from → IsSituation net situation → play strategy net situation ≡ Some schedule
       → moment_in schedule premise.from < moment_in schedule link.to → HoldsIn schedule premise
@@ -135,20 +138,20 @@ module _ (net : Plan) (strategy : Tree) (name : LinkId) (link : Link) where
       let holds_there = holds both.other both.other_schedule both.is_situation (same_label net both.other (Some name) premise.label (sym labelled) is_longest) both.played in
       beside_longest situation schedule sound both premise holds_there ends before
 
-pub lower_case_keeps_truth : LowerCaseKeepsTruth
-lower_case_keeps_truth net strategy second edge instant controls holds rule situation schedule is_situation longest played =
+pub law_lower_case_keeps_truth : LowerCaseKeepsTruth
+law_lower_case_keeps_truth net strategy second edge instant controls holds rule situation schedule is_situation longest played =
     let sound = link_sound net instant.sound rule.name.0 rule.link rule.declared in
     let both = compared net strategy rule.name rule.link situation schedule (nat_abs rule.link.low) instant controls rule.declared is_situation played (shortest_is_duration net rule.link sound) in
     let holds_there = holds both.other both.other_schedule both.is_situation (free net both.other second.label rule.second_ordinary) both.played in
     after_shortest net strategy rule.name rule.link situation schedule sound both second edge holds_there rule.begins rule.negative rule.from rule.to rule.looser
 
--- where situations differ only in one link, another link that takes its longest duration in one does in the other
+-- if situations differ only in one link, another link that takes its longest duration in one does in the other
 longest_stays : (net : Plan) (situation other : List ℕ) (name label : LinkId) → label ≢ name → DifferOnlyIn name situation other → TakesLongest net situation (Some label) → TakesLongest net other (Some label)
 longest_stays net situation other name label another differ longest link duration declared lasts =
     longest link duration declared (differ label.0 (λ same. another (λ i. record { 0 = same i })) ∙ lasts)
 
-pub cross_case_keeps_truth : CrossCaseKeepsTruth
-cross_case_keeps_truth net strategy second edge instant controls holds rule situation schedule is_situation longest played =
+pub law_cross_case_keeps_truth : CrossCaseKeepsTruth
+law_cross_case_keeps_truth net strategy second edge instant controls holds rule situation schedule is_situation longest played =
     let sound = link_sound net instant.sound rule.name.0 rule.link rule.declared in
     let both = compared net strategy rule.name rule.link situation schedule (nat_abs rule.link.low) instant controls rule.declared is_situation played (shortest_is_duration net rule.link sound) in
     let longest_here : TakesLongest net situation (Some rule.label) = same_label net situation edge.label (Some rule.label) rule.labelled longest in
@@ -156,10 +159,10 @@ cross_case_keeps_truth net strategy second edge instant controls holds rule situ
     let holds_there = holds both.other both.other_schedule both.is_situation (same_label net both.other (Some rule.label) second.label (sym rule.second_labelled) longest_there) both.played in
     after_shortest net strategy rule.name rule.link situation schedule sound both second edge holds_there rule.begins rule.negative rule.from rule.to rule.looser
 
-pub removal_keeps_truth : RemovalKeepsTruth
-removal_keeps_truth net strategy premise edge instant controls holds rule situation schedule is_situation longest played =
+pub law_removal_keeps_truth : RemovalKeepsTruth
+law_removal_keeps_truth net strategy premise edge instant controls holds rule situation schedule is_situation longest played =
     let (duration, lasts, fits) = duration_of net.links situation rule.name.0 rule.link is_situation rule.declared in
-    let completes = completion_follows_activation net strategy situation schedule rule.name rule.link duration instant played rule.declared lasts in
+    let completes = law_completion_follows_activation net strategy situation schedule rule.name rule.link duration instant played rule.declared lasts in
     let shortest = fits.0 in
     let ends : moment_in schedule premise.to ≡ moment_in schedule rule.link.from = ap (moment_in schedule) rule.ends in
     let from : moment_in schedule edge.from ≡ moment_in schedule premise.from = ap (moment_in schedule) rule.from in
@@ -178,19 +181,19 @@ true_of : (net : Plan) (strategy : Tree) (edges : List Edge) (edge : Edge) → A
 true_of net strategy edges edge all among =
     All-contains (HoldsOf net strategy) edges edge (All-from_recursion (HoldsOf net strategy) edges all) among
 
-pub rules_keep_truth : RulesKeepTruth
-rules_keep_truth net strategy earlier edge instant controls all (by_bound rule) = bound_keeps_truth net strategy edge instant controls rule
-rules_keep_truth net strategy earlier edge instant controls all (by_link rule) = link_keeps_truth net strategy edge instant controls rule
-rules_keep_truth net strategy earlier edge instant controls all (by_no_case first second first_among second_among rule) =
-    no_case_keeps_truth net strategy first second edge instant controls (true_of net strategy earlier first all first_among) (true_of net strategy earlier second all second_among) rule
-rules_keep_truth net strategy earlier edge instant controls all (by_upper_case first second first_among second_among rule) =
-    upper_case_keeps_truth net strategy first second edge instant controls (true_of net strategy earlier first all first_among) (true_of net strategy earlier second all second_among) rule
-rules_keep_truth net strategy earlier edge instant controls all (by_lower_case second among rule) =
-    lower_case_keeps_truth net strategy second edge instant controls (true_of net strategy earlier second all among) rule
-rules_keep_truth net strategy earlier edge instant controls all (by_cross_case second among rule) =
-    cross_case_keeps_truth net strategy second edge instant controls (true_of net strategy earlier second all among) rule
-rules_keep_truth net strategy earlier edge instant controls all (by_removal premise among rule) =
-    removal_keeps_truth net strategy premise edge instant controls (true_of net strategy earlier premise all among) rule
+pub law_rules_keep_truth : RulesKeepTruth
+law_rules_keep_truth net strategy earlier edge instant controls all (by_bound rule) = law_bound_keeps_truth net strategy edge instant controls rule
+law_rules_keep_truth net strategy earlier edge instant controls all (by_link rule) = law_link_keeps_truth net strategy edge instant controls rule
+law_rules_keep_truth net strategy earlier edge instant controls all (by_no_case first second first_among second_among rule) =
+    law_no_case_keeps_truth net strategy first second edge instant controls (true_of net strategy earlier first all first_among) (true_of net strategy earlier second all second_among) rule
+law_rules_keep_truth net strategy earlier edge instant controls all (by_upper_case first second first_among second_among rule) =
+    law_upper_case_keeps_truth net strategy first second edge instant controls (true_of net strategy earlier first all first_among) (true_of net strategy earlier second all second_among) rule
+law_rules_keep_truth net strategy earlier edge instant controls all (by_lower_case second among rule) =
+    law_lower_case_keeps_truth net strategy second edge instant controls (true_of net strategy earlier second all among) rule
+law_rules_keep_truth net strategy earlier edge instant controls all (by_cross_case second among rule) =
+    law_cross_case_keeps_truth net strategy second edge instant controls (true_of net strategy earlier second all among) rule
+law_rules_keep_truth net strategy earlier edge instant controls all (by_removal premise among rule) =
+    law_removal_keeps_truth net strategy premise edge instant controls (true_of net strategy earlier premise all among) rule
 
 -- the edges of a derivation up to a place are true
 true_up_to : (net : Plan) (strategy : Tree) (edges : List Edge) → IsInstant net → Controls strategy net → IsLooseDerivation net edges → (k : ℕ) → k ≤ length edges → All (HoldsOf net strategy) (take k edges)
@@ -200,13 +203,13 @@ true_up_to net strategy edges instant controls derivation (suc k) within =
     elim (slice_get_cases edges k).1 [
       | inl (edge, inside, found, here) ↦
           let earlier = recursion_from_All (HoldsOf net strategy) (take k edges) before in
-          let holds = rules_keep_truth net strategy (take k edges) edge instant controls earlier (derivation k edge found) in
+          let holds = law_rules_keep_truth net strategy (take k edges) edge instant controls earlier (derivation k edge found) in
           let holds_here : HoldsOf net strategy (get_or edges k edge) = subst (HoldsOf net strategy) (sym here) holds in
           subst (λ (n : ℕ). All (HoldsOf net strategy) (take n edges)) (add-one k) (All-more (HoldsOf net strategy) edges k edge inside before holds_here)
       | inr (past, missing) ↦ absurd (omega arith)
     ]
 
-pub derivations_are_true : DerivationsAreTrue
-derivations_are_true net strategy edges instant controls derivation =
+pub law_derivations_are_true : DerivationsAreTrue
+law_derivations_are_true net strategy edges instant controls derivation =
     let whole : take (length edges) edges ≡ edges = take-length edges in
     subst (All (HoldsOf net strategy)) whole (true_up_to net strategy edges instant controls derivation (length edges) (omega arith))

@@ -21,7 +21,7 @@ use Rattle.net_model.specs.ShownForm.{lag, gain, shown_bound, shown_link, shown_
 use Rattle.strategy_model.specs.ShownSchedules.{shown_moments, shown_schedule}
 use Rattle.strategy_model.specs.ShownLaws.{SatisfiesAsShown, SituationsAreShown, ControlIsShown, ControllableIsShown, EarliestIsShown, ShownFormIsInstant}
 use Rattle.net_model.proofs.ShownLemmas.{shown_sound}
-use Rattle.strategy_model.proofs.ShownPlayLemmas.{plays_are_shown}
+use Rattle.strategy_model.proofs.ShownPlayLemmas.{law_plays_are_shown}
 
 pub many_points : (net : Plan) → length (points_of net) ≡ length net.points
 many_points net =
@@ -118,14 +118,14 @@ module _ (net : Plan) where
   pub play_stated : (strategy : Tree) (situation schedule : List ℕ) → play strategy (shown_form net) (shown_situation net situation) ≡ Some schedule
       → (stated : List ℕ) × (play strategy net situation ≡ Some stated) × (shown_schedule net stated ≡ schedule)
   play_stated strategy situation schedule played =
-      mapped (shown_schedule net) (play strategy net situation) schedule (sym (plays_are_shown net strategy situation) ∙ played)
+      mapped (shown_schedule net) (play strategy net situation) schedule (sym (law_plays_are_shown net strategy situation) ∙ played)
 
   pub play_as_shown : (strategy : Tree) (situation schedule : List ℕ) → play strategy net situation ≡ Some schedule
       → play strategy (shown_form net) (shown_situation net situation) ≡ Some (shown_schedule net schedule)
   play_as_shown strategy situation schedule played =
-      plays_are_shown net strategy situation ∙ ap (option_map (shown_schedule net)) played
+      law_plays_are_shown net strategy situation ∙ ap (option_map (shown_schedule net)) played
 
-  -- a strategy controls the network exactly where it controls the shown form
+  -- a strategy controls the network exactly if it controls the shown form
   pub controls_shown : IsPlan net → (strategy : Tree) → Controls strategy net → Controls strategy (shown_form net)
   controls_shown plan strategy controls situation is_situation =
       let (stated, is_stated, is) = situation_stated plan situation is_situation in
@@ -194,22 +194,22 @@ module _ (net : Plan) where
         shows,
       )
 
-pub satisfies_as_shown : SatisfiesAsShown
-satisfies_as_shown net schedule plan = (satisfies_shown net plan schedule, satisfies_stated net plan schedule)
+pub law_satisfies_as_shown : SatisfiesAsShown
+law_satisfies_as_shown net schedule plan = (satisfies_shown net plan schedule, satisfies_stated net plan schedule)
 
-pub situations_are_shown : SituationsAreShown
-situations_are_shown net situation plan = (durations_shown net net.links situation, situation_stated net plan situation)
+pub law_situations_are_shown : SituationsAreShown
+law_situations_are_shown net situation plan = (durations_shown net net.links situation, situation_stated net plan situation)
 
-pub control_is_shown : ControlIsShown
-control_is_shown net strategy plan = (controls_shown net plan strategy, controls_stated net plan strategy)
+pub law_control_is_shown : ControlIsShown
+law_control_is_shown net strategy plan = (controls_shown net plan strategy, controls_stated net plan strategy)
 
-pub earliest_is_shown : EarliestIsShown
-earliest_is_shown net situation plan =
+pub law_earliest_is_shown : EarliestIsShown
+law_earliest_is_shown net situation plan =
     (λ schedule. earliest_shown net plan situation schedule, λ schedule. earliest_stated net plan situation schedule)
 
-pub controllable_is_shown : ControllableIsShown
-controllable_is_shown net plan =
+pub law_controllable_is_shown : ControllableIsShown
+law_controllable_is_shown net plan =
     (λ controllable. (controllable.0, controls_shown net plan controllable.0 controllable.1), λ controllable. (controllable.0, controls_stated net plan controllable.0 controllable.1))
 
-pub shown_form_is_instant : ShownFormIsInstant
-shown_form_is_instant net plan = record { sound = shown_sound net plan; no_delay = refl }
+pub law_shown_form_is_instant : ShownFormIsInstant
+law_shown_form_is_instant net plan = record { sound = shown_sound net plan; no_delay = refl }

@@ -19,7 +19,7 @@ use Rattle.strategy_model.specs.InstantPlays.{completes, is_completed, completed
 use Rattle.net_model.specs.ShownForm.{lag, gain, shown_link, shown_form, shown_durations, shown_situation}
 use Rattle.strategy_model.specs.ShownSchedules.{shown_moments, shown_schedule}
 use Rattle.strategy_model.specs.ShownLaws.{PlaysAreShown}
-use Rattle.strategy_model.proofs.InstantLemmas.{no_delay_is_instant}
+use Rattle.strategy_model.proofs.InstantLemmas.{law_no_delay_is_instant}
 
 module _ (net : Plan) where
   -- the shown form has the same contingent points
@@ -52,7 +52,7 @@ module _ (net : Plan) where
   sums a d t true = ap (λ (n : ℕ). n == t) (omega arith)
   sums a d t false = ap (λ (n : ℕ). n == t) (omega arith)
 
-  -- a link completes in the shown form where it is shown
+  -- a link completes in the shown form if it is shown
   completes_shown : (so_far : PartialSchedule) (t : ℕ) (link : Link) (duration : ℕ)
       → completes (map show so_far) t (shown_link net link) (duration + gain net link) ≡ shows net so_far t link duration
   completes_shown so_far t link duration =
@@ -88,7 +88,8 @@ module _ (net : Plan) where
   pub may_act_shown : (so_far : PartialSchedule) (acts : List PointId) → may_act (shown_form net) (map show so_far) acts ≡ may_act net so_far acts
   may_act_shown so_far [] = refl
   may_act_shown so_far (act ∷ acts) =
-      ap (λ (o : Option LinkId). nat_lt act.0 (length net.points) && is_none o && is_none (moment_so_far (map show so_far) act) && not (list_any (same_point act) acts) && may_act (shown_form net) (map show so_far) acts) (activation_shown act)
+      ap (λ (o : Option LinkId). nat_lt act.0 (length net.points) && is_none o && is_none (moment_so_far (map show so_far) act) && not (list_any (same_point act) acts) && may_act (shown_form net) (map show so_far) acts)
+      (activation_shown act)
       ∙ ap (λ (b : Bool). nat_lt act.0 (length net.points) && is_none (activation net act) && b && not (list_any (same_point act) acts) && may_act (shown_form net) (map show so_far) acts) (unknown_shown so_far act)
       ∙ ap (λ (b : Bool). nat_lt act.0 (length net.points) && is_none (activation net act) && is_none (moment_so_far so_far act) && not (list_any (same_point act) acts) && b) (may_act_shown so_far acts)
 
@@ -210,5 +211,5 @@ module _ (net : Plan) where
           (λ refused. refl))
           (λ other. cases_shown others so_far t points is)
 
-pub plays_are_shown : PlaysAreShown
-plays_are_shown net strategy situation = no_delay_is_instant (shown_form net) strategy (shown_situation net situation) refl ∙ play_shown net situation strategy [] 0
+pub law_plays_are_shown : PlaysAreShown
+law_plays_are_shown net strategy situation = law_no_delay_is_instant (shown_form net) strategy (shown_situation net situation) refl ∙ play_shown net situation strategy [] 0

@@ -25,14 +25,17 @@ goes_late net situation so_far t None = None
 goes_late net situation so_far t (Some case) =
     cond (may_act net so_far case.acts) (play_from case.next net situation (and_late net so_far t case.seen case.acts) (t + 1)) None
 
-choice : (net : Plan) (situation : List ℕ) (so_far : PartialSchedule) (t : ℕ) (b : Bool) (case : Case) (other : Option Case) (rest : Option (List ℕ)) → rest ≡ goes_late net situation so_far t other → cond b (goes_late net situation so_far t (Some case)) rest ≡ goes_late net situation so_far t (cond b (Some case) other)
+choice : (net : Plan) (situation : List ℕ) (so_far : PartialSchedule) (t : ℕ) (b : Bool) (case : Case) (other : Option Case) (rest : Option (List ℕ)) → rest ≡ goes_late net situation so_far t other
+    → cond b (goes_late net situation so_far t (Some case)) rest ≡ goes_late net situation so_far t (cond b (Some case) other)
 choice net situation so_far t true case other rest is = refl
 choice net situation so_far t false case other rest is = is
 
-row_play : {m : _} (cases : Row_of-Case m) (net : Plan) (situation : List ℕ) (so_far : PartialSchedule) (t : ℕ) (points : List PointId) → play_cases cases net situation so_far t points ≡ goes_late net situation so_far t (case_for (items-the_row-Case _ cases) points)
+row_play : {m : _} (cases : Row_of-Case m) (net : Plan) (situation : List ℕ) (so_far : PartialSchedule) (t : ℕ) (points : List PointId)
+    → play_cases cases net situation so_far t points ≡ goes_late net situation so_far t (case_for (items-the_row-Case _ cases) points)
 row_play end_of-Case net situation so_far t points = refl
 row_play (more_of-Case seen acts next others) net situation so_far t points =
-    choice net situation so_far t (pointwise same_point seen points) (record { seen = seen; acts = acts; next = next }) (case_for (items-the_row-Case _ others) points) (play_cases others net situation so_far t points) (row_play others net situation so_far t points)
+    choice net situation so_far t (pointwise same_point seen points) (record { seen = seen; acts = acts; next = next }) (case_for (items-the_row-Case _ others) points) (play_cases others net situation so_far t points)
+    (row_play others net situation so_far t points)
 
 -- at a node the play goes on in the first case that has just the completed points as seen
 pub node_play : (cases : List Case) (net : Plan) (situation : List ℕ) (so_far : PartialSchedule) (t : ℕ) → play_from (Node cases) net situation so_far t ≡ goes_late net situation so_far t (case_for cases (shown net situation so_far t))
@@ -49,7 +52,7 @@ sees (first ∷ cases) points case found =
       | inr later ↦ sees cases points case later.1
     ]
 
--- A step of a play, at a node with these cases where these points are completed.
+-- A step of a play, at a node with these cases when these points are completed.
 module _ (net : Plan) (situation : List ℕ) (so_far : PartialSchedule) (t : ℕ) (node : Tree) (cases : List Case) (is : node ≡ Node cases) (seen : List PointId) (seen_is : seen ≡ shown net situation so_far t) where
   at_node : play_from node net situation so_far t ≡ goes_late net situation so_far t (case_for cases seen)
   at_node =
@@ -67,11 +70,12 @@ module _ (net : Plan) (situation : List ℕ) (so_far : PartialSchedule) (t : ℕ
       at_node ∙ ap (goes_late net situation so_far t) found ∙ cond-true (may_act net so_far case.acts) (play_from case.next net situation (and_late net so_far t case.seen case.acts) (t + 1)) None may
       ∙ ap (λ (points : List PointId). play_from case.next net situation (and_late net so_far t points case.acts) (t + 1)) (sees cases seen case found)
 
-  pub depth_falls : (case : Case) → case_for cases seen ≡ Some case → depth case.next < depth node
-  depth_falls case found =
+  pub depth_decreases : (case : Case) → case_for cases seen ≡ Some case → depth case.next < depth node
+  depth_decreases case found =
       subst (λ (tree : Tree). depth case.next < depth tree) (sym is) (next_shallower cases seen case found)
 
-pub completion_none : (net : Plan) (so_far : PartialSchedule) (t : ℕ) (links : List Link) (durations : List ℕ) (point : PointId) (n : ℕ) → n ≡ min (length links) (length durations) → is_shown net so_far t (drop n links) (drop n durations) point ≡ false
+pub completion_none : (net : Plan) (so_far : PartialSchedule) (t : ℕ) (links : List Link) (durations : List ℕ) (point : PointId) (n : ℕ) → n ≡ min (length links) (length durations)
+    → is_shown net so_far t (drop n links) (drop n durations) point ≡ false
 completion_none net so_far t links durations point n whole = go (drop n links) (drop n durations) (omega (arith, length-drop n links, length-drop n durations))
   where
     go : (ls : List Link) (ds : List ℕ) → min (length ls) (length ds) ≡ 0 → is_shown net so_far t ls ds point ≡ false

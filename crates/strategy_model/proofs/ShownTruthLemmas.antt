@@ -11,14 +11,14 @@ use Rattle.net_model.specs.declared.part.Edge.{Edge}
 use Rattle.strategy_model.specs.Plays.{play}
 use Rattle.strategy_model.specs.Edges.{HoldsIn, HoldsOf, TakesLongest}
 use Rattle.strategy_model.specs.declared.tree.Tree.{Tree}
-use Rattle.strategy_model.proofs.LoopLemmas.{refutations_exclude_strategies}
+use Rattle.strategy_model.proofs.LoopLemmas.{law_refutations_exclude_strategies}
 use Rattle.net_model.specs.ShownForm.{gain, shown_link, shown_form, shown_durations, shown_situation}
 use Rattle.strategy_model.specs.ShownSchedules.{shown_schedule}
 use Rattle.strategy_model.specs.ShownLaws.{HoldsAsShown, TruthIsShown, ShownRefutationsExclude}
-use Rattle.strategy_model.proofs.ShownFormLemmas.{play_stated, play_as_shown, situation_stated, durations_shown, controllable_is_shown, shown_form_is_instant}
+use Rattle.strategy_model.proofs.ShownFormLemmas.{play_stated, play_as_shown, situation_stated, durations_shown, law_controllable_is_shown, law_shown_form_is_instant}
 
 module _ (net : Plan) where
-  -- a link takes its longest duration where it does as shown
+  -- a link takes its longest duration if it does as shown
   pub durations_at : (links : List Link) (durations : List ℕ) (k : ℕ) (link : Link) (duration : ℕ) → slice_get links k ≡ Some link → slice_get durations k ≡ Some duration
       → slice_get (shown_durations net links durations) k ≡ Some (duration + gain net link)
   durations_at [] durations k link duration declared lasts = absurd (none-some link declared)
@@ -65,9 +65,9 @@ module _ (net : Plan) where
       holds (shown_situation net situation) (shown_schedule net schedule) (durations_shown net net.links situation is_situation) (longest_shown situation edge.label longest)
       (play_as_shown net strategy situation schedule played)
 
-pub truth_is_shown : TruthIsShown
-truth_is_shown net strategy edge plan = (truth_shown net plan strategy edge, truth_stated net strategy edge)
+pub law_truth_is_shown : TruthIsShown
+law_truth_is_shown net strategy edge plan = (truth_shown net plan strategy edge, truth_stated net strategy edge)
 
-pub shown_refutations_exclude : ShownRefutationsExclude
-shown_refutations_exclude net edges walk plan derivation among loop controllable =
-    refutations_exclude_strategies (shown_form net) edges walk (shown_form_is_instant net plan) derivation among loop ((controllable_is_shown net plan).0 controllable)
+pub law_shown_refutations_exclude : ShownRefutationsExclude
+law_shown_refutations_exclude net edges walk plan derivation among loop controllable =
+    law_refutations_exclude_strategies (shown_form net) edges walk (law_shown_form_is_instant net plan) derivation among loop ((law_controllable_is_shown net plan).0 controllable)

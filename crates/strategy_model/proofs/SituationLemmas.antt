@@ -111,7 +111,7 @@ is_duration net link duration sound among =
     let (from, below) = from_range (nat_abs link.low) (nat_abs link.high + 1 - nat_abs link.low) duration among in
     (omega (arith, ints, low, from), omega (arith, ints, low, high, from, below, interval))
 
--- one duration for each link, in all ways
+-- one duration for each link, in every combination
 all_picks : List Link → List (List ℕ)
 all_picks [] = [] ∷ []
 all_picks (link ∷ links) = flat_map (λ duration. map (λ picks. duration ∷ picks) (all_picks links)) (durations_of link)
@@ -122,7 +122,8 @@ has_picks net [] [] sound fits = inl refl
 has_picks net [] (duration ∷ picks) sound fits = absurd fits
 has_picks net (link ∷ links) [] sound fits = absurd fits
 has_picks net (link ∷ links) (duration ∷ picks) sound fits =
-    among_flat (λ duration. map (λ picks. duration ∷ picks) (all_picks links)) (durations_of link) duration (duration ∷ picks) (has_duration net link duration sound.0 fits.0) (among_map (λ (picks : List ℕ). duration ∷ picks) (all_picks links) picks (has_picks net links picks sound.1 fits.1))
+    among_flat (λ duration. map (λ picks. duration ∷ picks) (all_picks links)) (durations_of link) duration (duration ∷ picks) (has_duration net link duration sound.0 fits.0)
+    (among_map (λ (picks : List ℕ). duration ∷ picks) (all_picks links) picks (has_picks net links picks sound.1 fits.1))
 
 are_picks : (net : Plan) (links : List Link) (picks : List ℕ) → AllByRecursion (IsLink net) links → Among (all_picks links) picks → AllZip IsDuration links picks
 unfolding all_picks

@@ -27,7 +27,8 @@ pub case_found : (cases : List Case) (i : ℕ) (case : Case) (points : List Poin
 case_found cases i case points within is passes =
     ap (λ (cs : List Case). case_for cs points) (next_of cases i case within is) ∙ cond-true (pointwise same_point case.seen points) (Some case) (case_for (drop (i + 1) cases) points) passes
 
-pub case_passed : (cases : List Case) (i : ℕ) (case : Case) (points : List PointId) → i < length cases → case ≡ get_or cases i case → pointwise same_point case.seen points ≡ false → case_for (drop i cases) points ≡ case_for (drop (i + 1) cases) points
+pub case_passed : (cases : List Case) (i : ℕ) (case : Case) (points : List PointId) → i < length cases → case ≡ get_or cases i case → pointwise same_point case.seen points ≡ false
+    → case_for (drop i cases) points ≡ case_for (drop (i + 1) cases) points
 case_passed cases i case points within is fails =
     ap (λ (cs : List Case). case_for cs points) (next_of cases i case within is) ∙ cond-false (pointwise same_point case.seen points) (Some case) (case_for (drop (i + 1) cases) points) fails
 
@@ -54,11 +55,13 @@ abbrev pub may_act_first : Plan → PartialSchedule → PointId → List PointId
 may_act_first net so_far act rest =
     nat_lt act.0 (length net.points) && is_none (activation net act) && is_none (moment_so_far so_far act) && not (list_any (same_point act) rest)
 
-pub act_passed : (net : Plan) (so_far : PartialSchedule) (acts : List PointId) (i : ℕ) (act : PointId) → i < length acts → act ≡ get_or acts i act → may_act_first net so_far act (drop (i + 1) acts) ≡ true → may_act net so_far (drop i acts) ≡ may_act net so_far (drop (i + 1) acts)
+pub act_passed : (net : Plan) (so_far : PartialSchedule) (acts : List PointId) (i : ℕ) (act : PointId) → i < length acts → act ≡ get_or acts i act → may_act_first net so_far act (drop (i + 1) acts) ≡ true
+    → may_act net so_far (drop i acts) ≡ may_act net so_far (drop (i + 1) acts)
 act_passed net so_far acts i act within is passes =
     ap (may_act net so_far) (next_of acts i act within is) ∙ ap (λ (b : Bool). b && may_act net so_far (drop (i + 1) acts)) passes
 
-pub act_refused : (net : Plan) (so_far : PartialSchedule) (acts : List PointId) (i : ℕ) (act : PointId) → i < length acts → act ≡ get_or acts i act → may_act_first net so_far act (drop (i + 1) acts) ≡ false → may_act net so_far (drop i acts) ≡ false
+pub act_refused : (net : Plan) (so_far : PartialSchedule) (acts : List PointId) (i : ℕ) (act : PointId) → i < length acts → act ≡ get_or acts i act → may_act_first net so_far act (drop (i + 1) acts) ≡ false
+    → may_act net so_far (drop i acts) ≡ false
 act_refused net so_far acts i act within is fails =
     ap (may_act net so_far) (next_of acts i act within is) ∙ ap (λ (b : Bool). b && may_act net so_far (drop (i + 1) acts)) fails
 
@@ -95,7 +98,8 @@ pub made_more : (net : Plan) (so_far : PartialSchedule) (items : List ℕ) (k m 
     (all_some (map (moment_so_far so_far) (drop (k + 1) (points_of net))))
 made_more net so_far items k m within point is found =
     let rest = all_some (map (moment_so_far so_far) (drop (k + 1) (points_of net))) in
-    ap (λ (points : List PointId). option_map (λ xs. items ++ xs) (all_some (map (moment_so_far so_far) points))) (next_point net k within point is) ∙ ap (λ (o : Option ℕ). option_map (λ xs. items ++ xs) (all_some (o ∷ map (moment_so_far so_far) (drop (k + 1) (points_of net))))) found ∙ after_one items m rest
+    ap (λ (points : List PointId). option_map (λ xs. items ++ xs) (all_some (map (moment_so_far so_far) points))) (next_point net k within point is)
+    ∙ ap (λ (o : Option ℕ). option_map (λ xs. items ++ xs) (all_some (o ∷ map (moment_so_far so_far) (drop (k + 1) (points_of net))))) found ∙ after_one items m rest
 
 pub made_whole : (net : Plan) (so_far : PartialSchedule) (items : List ℕ) (k : ℕ) → length net.points ≤ k → option_map (λ xs. items ++ xs) (all_some (map (moment_so_far so_far) (drop k (points_of net)))) ≡ Some items
 made_whole net so_far items k past =
@@ -111,7 +115,8 @@ completed_more test net k within point is =
     let read : get_or (points_of net) k point ≡ point = get_or_from_slice_get (points_of net) k point point here in
     filter_more test (points_of net) k point (omega arith) ∙ ap (λ (p : PointId). filter test (take k (points_of net)) ++ cond (test p) (p ∷ []) []) read
 
-pub completed_with : (test : PointId → Bool) (net : Plan) (k : ℕ) → k < length net.points → (point : PointId) → point.0 ≡ k → test point ≡ true → filter test (take (k + 1) (points_of net)) ≡ filter test (take k (points_of net)) ++ point ∷ []
+pub completed_with : (test : PointId → Bool) (net : Plan) (k : ℕ) → k < length net.points → (point : PointId) → point.0 ≡ k → test point ≡ true
+    → filter test (take (k + 1) (points_of net)) ≡ filter test (take k (points_of net)) ++ point ∷ []
 completed_with test net k within point is passes =
     completed_more test net k within point is ∙ ap (λ (points : List PointId). filter test (take k (points_of net)) ++ points) (cond-true (test point) (point ∷ []) [] passes)
 

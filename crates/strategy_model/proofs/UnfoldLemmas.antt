@@ -107,9 +107,10 @@ module _ (net : Plan) (schedule_of : List ℕ → List ℕ) where
           let found = rest later in
           record { situation = found.situation; among = inr found.among; sees = found.sees; found = tried false is ∙ found.found }
 
--- ---- where the same is seen
+-- ---- if the same is seen
 -- a contingent point that comes by a moment up to which the same points are seen comes at once in both
-seen_comes : (net : Plan) (first second : List ℕ) (t : ℕ) (point : PointId) → IsPoint net point → Ending net point → ((m : ℕ) → m ≤ t → seen_in net first m ≡ seen_in net second m) → moment_in first point ≤ t → moment_in first point ≡ moment_in second point
+seen_comes : (net : Plan) (first second : List ℕ) (t : ℕ) (point : PointId) → IsPoint net point → Ending net point → ((m : ℕ) → m ≤ t → seen_in net first m ≡ seen_in net second m) → moment_in first point ≤ t
+    → moment_in first point ≡ moment_in second point
 seen_comes net first second t point within ending same by_then =
     let m = moment_in first point in
     let passes : comes_seen net first m point ≡ true = and_from (is_some (activation net point)) (moment_in first point == m) (some_from_none (activation net point) (ending_known net point ending)) (eq-eqb m m refl) in
@@ -129,10 +130,12 @@ no_link None none = refl
 no_link (Some x) none = absurd (true≢false (sym none))
 
 module _ (net : Plan) (schedule_of : List ℕ → List ℕ) (plan : IsPlan net) (dynamic : IsDynamic net schedule_of) where
-  -- where the same points were seen up to a moment, the same are executed at it
-  same_acts : (first second : List ℕ) (t : ℕ) → IsSituation net first → IsSituation net second → ((m : ℕ) → m ≤ t → seen_in net (schedule_of first) m ≡ seen_in net (schedule_of second) m) → acts_in net (schedule_of first) t ≡ acts_in net (schedule_of second) t
+  -- if the same points were seen up to a moment, the same are executed at it
+  same_acts : (first second : List ℕ) (t : ℕ) → IsSituation net first → IsSituation net second → ((m : ℕ) → m ≤ t → seen_in net (schedule_of first) m ≡ seen_in net (schedule_of second) m)
+      → acts_in net (schedule_of first) t ≡ acts_in net (schedule_of second) t
   same_acts first second t is_first is_second same =
-      filter_agree (comes_acted net (schedule_of first) t) (comes_acted net (schedule_of second) t) (λ point. same_tests (comes_acted net (schedule_of first) t point) (comes_acted net (schedule_of second) t point) (there point) (back point)) (points_of net)
+      filter_agree (comes_acted net (schedule_of first) t) (comes_acted net (schedule_of second) t) (λ point. same_tests (comes_acted net (schedule_of first) t point) (comes_acted net (schedule_of second) t point) (there point)
+      (back point)) (points_of net)
     where
       at_once : (point : PointId) → is_none (activation net point) ≡ true → (moment_in (schedule_of first) point ≡ t) ⊎ (moment_in (schedule_of second) point ≡ t) → moment_in (schedule_of first) point ≡ moment_in (schedule_of second) point
       at_once point free comes =
@@ -183,8 +186,10 @@ module _ (net : Plan) (schedule_of : List ℕ → List ℕ) (plan : IsPlan net) 
       let acts_same : acts_in net (schedule_of its) t ≡ acts_in net schedule t = same_acts its situation t (all its took.among) is_situation alike_now in
       let may : may_act net so_far (acts_in net (schedule_of its) t) ≡ true = subst (λ (acts : List PointId). may_act net so_far acts ≡ true) (sym acts_same) (acts_allowed net schedule so_far t known) in
       let seen_is = completed_is net situation schedule plan is_situation (λ name link duration. dynamic.lasting situation name link duration is_situation) so_far t known in
-      let next = case_taken net situation so_far t (unfolded net schedule_of (suc moments) situations t) (map (case_in net schedule_of moments situations t) situations) refl (seen_in net schedule t) (sym seen_is) (case_in net schedule_of moments situations t its) took.found may in
-      let kept = λ (other : List ℕ) (among' : Among (left_by net schedule_of situations t its) other). from_kept (λ other. pointwise same_point (seen_in net (schedule_of its) t) (seen_in net (schedule_of other) t)) situations other among' in
+      let next = case_taken net situation so_far t (unfolded net schedule_of (suc moments) situations t) (map (case_in net schedule_of moments situations t) situations) refl (seen_in net schedule t) (sym seen_is)
+      (case_in net schedule_of moments situations t its) took.found may in
+      let kept = λ (other : List ℕ) (among' : Among (left_by net schedule_of situations t its) other). from_kept (λ other. pointwise same_point (seen_in net (schedule_of its) t) (seen_in net (schedule_of other) t)) situations other
+      among' in
       let rest = plays moments (left_by net schedule_of situations t its) (t + 1) situation (and_moment so_far t (seen_in net schedule t) (acts_in net schedule t))
       (among_kept (λ other. pointwise same_point (seen_in net (schedule_of its) t) (seen_in net (schedule_of other) t)) situations situation among
       (same_list (seen_in net (schedule_of its) t) (seen_in net schedule t) took.sees)) (λ other among'. all other (kept other among').0) (λ other among' m before. elim (cases_lt m t) [
@@ -196,14 +201,15 @@ module _ (net : Plan) (schedule_of : List ℕ → List ℕ) (plan : IsPlan net) 
       ]) (known_after net situation schedule plan is_situation (λ name link duration. dynamic.lasting situation name link duration is_situation) so_far t known) (λ point within. let before = past point within in omega (arith, before)) in
       next ∙ ap (λ (acts : List PointId). instant_from (unfolded net schedule_of moments (left_by net schedule_of situations t its) (t + 1)) net situation (and_moment so_far t (seen_in net schedule t) acts) (t + 1)) acts_same ∙ rest
 
-pub dynamic_strategies_are_trees : DynamicStrategiesAreTrees
-dynamic_strategies_are_trees net schedule_of instant dynamic =
+pub law_dynamic_strategies_are_trees : DynamicStrategiesAreTrees
+law_dynamic_strategies_are_trees net schedule_of instant dynamic =
     let situations = situations_of net in
     let moments = suc (horizon net schedule_of situations) in (
       unfolded net schedule_of moments situations 0,
       λ situation is_situation.
           let among = has_situation net situation instant.sound is_situation in
-          from_as_instant net (unfolded net schedule_of moments situations 0) situation (schedule_of situation) instant (plays net schedule_of instant.sound dynamic moments situations 0 situation [] among (λ other among'. are_situations net other instant.sound among') (λ other among' m before. absurd (omega (arith, before)))
+          from_as_instant net (unfolded net schedule_of moments situations 0) situation (schedule_of situation) instant
+          (plays net schedule_of instant.sound dynamic moments situations 0 situation [] among (λ other among'. are_situations net other instant.sound among') (λ other among' m before. absurd (omega (arith, before)))
           (record { before = λ point within before. absurd (omega (arith, before)); not_yet = λ point within later. refl })
           (λ point within. let below = within_horizon net schedule_of situations situation among point.0 in omega (arith, below))),
     )

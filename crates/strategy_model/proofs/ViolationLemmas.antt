@@ -14,17 +14,17 @@ use Rattle.net_model.specs.Rules.{moved_to_activation}
 use Rattle.net_model.specs.declared.ids.LinkId.{LinkId}
 use Rattle.net_model.specs.declared.part.Edge.{Edge}
 use Rattle.net_model.specs.declared.part.Link.{Link}
-use Rattle.net_model.proofs.ApplyingLemmas.{negative_holds}
+use Rattle.net_model.proofs.AppliedRuleLemmas.{negative_holds}
 use Rattle.strategy_model.specs.Situations.{IsSituation, IsDuration, moment_in}
-use Rattle.strategy_model.specs.Dispatch.{Stands, IsClosedList, HoldsBack, IsDispatched, awaited, moment_after, completion_in}
+use Rattle.strategy_model.specs.Dispatch.{Stands, IsClosedList, HoldsBack, IsDispatched, release_moment, moment_after_edge, completion_in}
 use Rattle.strategy_model.proofs.PlayLemmas.{link_sound}
 use Rattle.strategy_model.proofs.CompareLemmas.{duration_of}
 use Rattle.strategy_model.proofs.ExactLemmas.{below_zero}
 use Rattle.strategy_model.proofs.ClosedLemmas.{stands_link, stands_no_case, stands_upper_case, stands_lower_case, stands_cross_case, stands_removal, edge_sound, label_sound}
 use Rattle.strategy_model.proofs.KindLemmas.{Ending, kind}
 
--- an edge is violated: its second point comes too late after its first, and, where it has a label, its first comes before
--- the label's completion
+-- an edge is violated: its second point comes too late after its first, and, if it has a label, its first comes before the label's
+-- completion
 pub record Violated (net : Plan) (schedule : List ℕ) (edge : Edge) : Type 0 where
   pub late : (pos (moment_in schedule edge.from) +ℤ edge.weight) <ℤ pos (moment_in schedule edge.to)
   pub sooner : (label : LinkId) → edge.label ≡ Some label → moment_in schedule edge.from < completion_in net schedule label
@@ -47,14 +47,14 @@ size_of (pos n) negative = absurd (omega (arith, ints))
 size_of (negsuc n) negative = let same : suc n ≡ 0 + suc n = omega arith in ap pos same
 
 -- a lower bound asks for n after its end
-pub bound_awaited : (net : Plan) (schedule : List ℕ) (edge : Edge) → edge.label ≡ None → awaited net schedule edge ≡ moment_after schedule edge
-bound_awaited net schedule edge ordinary =
-    ap (λ (label : Option LinkId). option_map_or (λ name. min (completion_in net schedule name) (moment_after schedule edge)) label (moment_after schedule edge)) ordinary
+pub bound_release_moment : (net : Plan) (schedule : List ℕ) (edge : Edge) → edge.label ≡ None → release_moment net schedule edge ≡ moment_after_edge schedule edge
+bound_release_moment net schedule edge ordinary =
+    ap (λ (label : Option LinkId). option_map_or (λ name. min (completion_in net schedule name) (moment_after_edge schedule edge)) label (moment_after_edge schedule edge)) ordinary
 
 -- a wait asks for the lesser of that and the completion
-pub wait_awaited : (net : Plan) (schedule : List ℕ) (edge : Edge) (name : LinkId) → edge.label ≡ Some name → awaited net schedule edge ≡ min (completion_in net schedule name) (moment_after schedule edge)
-wait_awaited net schedule edge name labelled =
-    ap (λ (label : Option LinkId). option_map_or (λ name. min (completion_in net schedule name) (moment_after schedule edge)) label (moment_after schedule edge)) labelled
+pub wait_release_moment : (net : Plan) (schedule : List ℕ) (edge : Edge) (name : LinkId) → edge.label ≡ Some name → release_moment net schedule edge ≡ min (completion_in net schedule name) (moment_after_edge schedule edge)
+wait_release_moment net schedule edge name labelled =
+    ap (λ (label : Option LinkId). option_map_or (λ name. min (completion_in net schedule name) (moment_after_edge schedule edge)) label (moment_after_edge schedule edge)) labelled
 
 -- the completion of a link is the moment of its contingent point
 pub completion_is : (net : Plan) (schedule : List ℕ) (name : LinkId) (link : Link) → IsLinkOf net name link → completion_in net schedule name ≡ moment_in schedule link.to
@@ -122,7 +122,7 @@ module _ (net : Plan) (edges : List Edge) (situation schedule : List ℕ) (plan 
         })
 
     -- a negative edge from an executable point holds it back
-    held_back : (edge : Edge) → Contains edges edge → edge.weight <ℤ pos 0 → IsExecutable net edge.from → awaited net schedule edge ≤ moment_in schedule edge.from
+    held_back : (edge : Edge) → Contains edges edge → edge.weight <ℤ pos 0 → IsExecutable net edge.from → release_moment net schedule edge ≤ moment_in schedule edge.from
     held_back edge among negative executable =
         (dispatched.executable edge.from executable).not_before edge (record { among = among; begins = refl; negative = negative_holds edge negative })
 
@@ -133,7 +133,7 @@ module _ (net : Plan) (edges : List Edge) (situation schedule : List ℕ) (plan 
               let late = violated.late in
               let size = size_of edge.weight negative in
               let held = held_back edge among negative executable in
-              let asks = bound_awaited net schedule edge ordinary in
+              let asks = bound_release_moment net schedule edge ordinary in
               omega (arith, ints, late, size, held, asks)
           | inr ending ↦ moved edge ending.link ending.name ending.declared ending.ends (stands_lower_case net edges closed ending.name ending.link edge ending.declared among ordinary (sym ending.ends) negative) low violated
         ]
@@ -141,11 +141,11 @@ module _ (net : Plan) (edges : List Edge) (situation schedule : List ℕ) (plan 
     -- an ordinary edge from 0 on
     module _ (edge : Edge) (among : Contains edges edge) (ordinary : edge.label ≡ None) (from_zero : pos 0 ≤ℤ edge.weight) (low : measure schedule edge < suc limit) (violated : Violated net schedule edge) where
       -- and the ordinary edge by which its end is held back: no-case
-      before_bound : (next : Edge) → HoldsBack edges edge.to next → next.label ≡ None → awaited net schedule next ≡ moment_in schedule edge.to → ⊥
+      before_bound : (next : Edge) → HoldsBack edges edge.to next → next.label ≡ None → release_moment net schedule next ≡ moment_in schedule edge.to → ⊥
       before_bound next holds next_ordinary reached =
           let negative = below_zero next holds.negative in
           let size = size_of next.weight negative in
-          let asks = bound_awaited net schedule next next_ordinary in
+          let asks = bound_release_moment net schedule next next_ordinary in
           let late = violated.late in
           let marked = mark_small edge.label in
           let made : Edge = record { from = edge.from; to = next.to; label = None; weight = edge.weight +ℤ next.weight } in
@@ -158,11 +158,11 @@ module _ (net : Plan) (edges : List Edge) (situation schedule : List ℕ) (plan 
       before_wait : (next : Edge) (name : LinkId) → Contains edges next → edge.to ≡ next.from → next.weight <ℤ pos 0
           → next.label ≡ Some name → (pos (moment_in schedule edge.to) +ℤ next.weight) ≤ℤ pos (moment_in schedule next.to) → moment_in schedule edge.to ≤ completion_in net schedule name
           → moment_in schedule next.to < moment_in schedule edge.to → ⊥
-      before_wait next name next_among meets negative labelled asks before falls =
+      before_wait next name next_among meets negative labelled asks before descends =
           let late = violated.late in
           let marked = mark_small next.label in
           let made : Edge = record { from = edge.from; to = next.to; label = next.label; weight = edge.weight +ℤ next.weight } in
-          impossible made (stands_upper_case net edges closed edge next name among next_among ordinary labelled meets negative from_zero) (omega (arith, marked, falls, low)) (record {
+          impossible made (stands_upper_case net edges closed edge next name among next_among ordinary labelled meets negative from_zero) (omega (arith, marked, descends, low)) (record {
             late = omega (arith, ints, asks, late);
             sooner = λ label its.
                 let same : completion_in net schedule label ≡ completion_in net schedule name = ap (completion_in net schedule) (same_Some label name (sym its ∙ labelled)) in
@@ -170,7 +170,7 @@ module _ (net : Plan) (edges : List Edge) (situation schedule : List ℕ) (plan 
           })
 
       -- its end is held back by another edge
-      before_held : (next : Edge) → HoldsBack edges edge.to next → awaited net schedule next ≡ moment_in schedule edge.to → ⊥
+      before_held : (next : Edge) → HoldsBack edges edge.to next → release_moment net schedule next ≡ moment_in schedule edge.to → ⊥
       before_held next holds reached = by next.label refl
         where
           by : (label : Option LinkId) → next.label ≡ label → ⊥
@@ -178,7 +178,7 @@ module _ (net : Plan) (edges : List Edge) (situation schedule : List ℕ) (plan 
           by (Some name) labelled =
               let negative = below_zero next holds.negative in
               let size = size_of next.weight negative in
-              let asks = wait_awaited net schedule next name labelled in
+              let asks = wait_release_moment net schedule next name labelled in
               let (link, declared, ends) = label_sound net edges closed next name holds.among labelled in
               let completion = completion_is net schedule name link declared in
               let lasting = its_lasts name link declared in
@@ -186,7 +186,8 @@ module _ (net : Plan) (edges : List Edge) (situation schedule : List ℕ) (plan 
               let shortest = lasting.fits.0 in
               let positive = lasting.positive in
               let to : moment_in schedule next.to ≡ moment_in schedule link.from = ap (moment_in schedule) ends in
-              before_wait next name holds.among (sym holds.begins) negative labelled (omega (arith, ints, asks, reached, size)) (omega (arith, asks, reached)) (omega (arith, ints, asks, reached, completion, is, to, shortest, positive, size, negative))
+              before_wait next name holds.among (sym holds.begins) negative labelled (omega (arith, ints, asks, reached, size)) (omega (arith, asks, reached))
+              (omega (arith, ints, asks, reached, completion, is, to, shortest, positive, size, negative))
 
       -- its end is a contingent point: upper-case with the edge of its link
       before_completion : Ending net edge.to → ⊥
@@ -203,7 +204,8 @@ module _ (net : Plan) (edges : List Edge) (situation schedule : List ℕ) (plan 
           let end : moment_in schedule link.to ≡ moment_in schedule edge.to = ap (moment_in schedule) ending.ends in
           let to : moment_in schedule next.to ≡ moment_in schedule link.from = ap (moment_in schedule) stands.to in
           let completion = completion_is net schedule ending.name link ending.declared in
-          before_wait next ending.name stands.among (sym ending.ends ∙ sym stands.from) negative stands.label (omega (arith, ints, at_most, longest, is, end, to)) (omega (arith, completion, end)) (omega (arith, ints, is, end, to, shortest, positive))
+          before_wait next ending.name stands.among (sym ending.ends ∙ sym stands.from) negative stands.label (omega (arith, ints, at_most, longest, is, end, to)) (omega (arith, completion, end))
+          (omega (arith, ints, is, end, to, shortest, positive))
 
       ordinary_from_zero : ⊥
       ordinary_from_zero =
@@ -236,7 +238,7 @@ module _ (net : Plan) (edges : List Edge) (situation schedule : List ℕ) (plan 
           | inl executable ↦
               let size = size_of edge.weight negative in
               let held = held_back edge among negative executable in
-              let asks = wait_awaited net schedule edge name labelled in
+              let asks = wait_release_moment net schedule edge name labelled in
               let late = violated.late in
               let before = violated.sooner name labelled in
               omega (arith, ints, size, held, asks, late, before)
@@ -245,7 +247,8 @@ module _ (net : Plan) (edges : List Edge) (situation schedule : List ℕ) (plan 
                 let its : completion_in net schedule name ≡ moment_in schedule edge.from = completion_is net schedule name ending.link (ap (slice_get net.links) same ∙ ending.declared) ∙ ap (moment_in schedule) ending.ends in
                 let before = violated.sooner name labelled in
                 omega (arith, its, before)
-            | inr other ↦ moved edge ending.link ending.name ending.declared ending.ends (stands_cross_case net edges closed ending.name name ending.link edge ending.declared among labelled (λ same. other (ap (λ (l : LinkId). l.0) same)) (sym ending.ends) negative) low violated
+            | inr other ↦ moved edge ending.link ending.name ending.declared ending.ends (stands_cross_case net edges closed ending.name name ending.link edge ending.declared among labelled (λ same. other (ap (λ (l : LinkId). l.0) same))
+                (sym ending.ends) negative) low violated
           ]
         ]
 

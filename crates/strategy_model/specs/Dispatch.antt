@@ -33,11 +33,12 @@ pub record IsClosedList (net : Plan) (edges : List Edge) : Type 0 where
 pub record IsOrder (net : Plan) (edges : List Edge) (order : List PointId) : Type 0 where
   pub complete : (point : PointId) → IsPoint net point → Contains order point
   pub once : IsDistinct same_point order
-  pub falls : (edge : Edge) (later earlier : ℕ) → Contains edges edge → IsNegativeOrdinary edge → slice_get order later ≡ Some edge.from → slice_get order earlier ≡ Some edge.to → earlier < later
+  pub descends : (edge : Edge) (later earlier : ℕ) → Contains edges edge → IsNegativeOrdinary edge → slice_get order later ≡ Some edge.from
+      → slice_get order earlier ≡ Some edge.to → earlier < later
 
 -- n moments after the point to which an edge of -n goes
-abbrev pub moment_after : List ℕ → Edge → ℕ
-moment_after schedule edge = moment_in schedule edge.to + unsigned_abs edge.weight
+abbrev pub moment_after_edge : List ℕ → Edge → ℕ
+moment_after_edge schedule edge = moment_in schedule edge.to + unsigned_abs edge.weight
 
 -- the moment of the contingent point of a link
 abbrev pub completion_in : Plan → List ℕ → LinkId → ℕ
@@ -45,9 +46,9 @@ completion_in net schedule label = option_map_or (λ link. moment_in schedule li
 
 -- the moment up to which a negative edge holds its first point back: a lower bound X to Y of -n, up to n after Y; a wait X
 -- to A of -n labelled by the link of C, up to the lesser of C and n after A
-abbrev pub awaited : Plan → List ℕ → Edge → ℕ
-awaited net schedule edge =
-    option_map_or (λ label. min (completion_in net schedule label) (moment_after schedule edge)) edge.label (moment_after schedule edge)
+abbrev pub release_moment : Plan → List ℕ → Edge → ℕ
+release_moment net schedule edge =
+    option_map_or (λ label. min (completion_in net schedule label) (moment_after_edge schedule edge)) edge.label (moment_after_edge schedule edge)
 
 -- a negative edge of the list that begins in the point
 pub record HoldsBack (edges : List Edge) (point : PointId) (edge : Edge) : Type 0 where
@@ -57,8 +58,8 @@ pub record HoldsBack (edges : List Edge) (point : PointId) (edge : Edge) : Type 
 
 -- a point comes at the greatest of 0 and the moments up to which edges hold it back
 pub record ComesAtOnce (net : Plan) (edges : List Edge) (schedule : List ℕ) (point : PointId) : Type 0 where
-  pub not_before : (edge : Edge) → HoldsBack edges point edge → awaited net schedule edge ≤ moment_in schedule point
-  pub reached : (moment_in schedule point ≡ 0) ⊎ ((edge : Edge) × HoldsBack edges point edge × (awaited net schedule edge ≡ moment_in schedule point))
+  pub not_before : (edge : Edge) → HoldsBack edges point edge → release_moment net schedule edge ≤ moment_in schedule point
+  pub reached : (moment_in schedule point ≡ 0) ⊎ ((edge : Edge) × HoldsBack edges point edge × (release_moment net schedule edge ≡ moment_in schedule point))
 
 -- the schedule of lower bounds and waits in a situation: an executable point comes as soon as they let it, a contingent
 -- point its link's duration after its activation point
@@ -68,13 +69,13 @@ pub record IsDispatched (net : Plan) (edges : List Edge) (situation schedule : L
   pub contingent : (name : LinkId) (link : Link) (duration : ℕ) → IsLinkOf net name link → slice_get situation name.0 ≡ Some duration
       → moment_in schedule link.to ≡ moment_in schedule link.from + duration
 
--- a strategy dispatches a network by a list of edges where it plays, in every situation, the schedule of lower bounds and
--- waits
+-- a strategy dispatches a network by a list of edges if it plays, in every situation, the schedule of lower bounds and waits
 abbrev pub Dispatches : Tree → Plan → List Edge → Type 0
 Dispatches strategy net edges =
-    (situation : List ℕ) → IsSituation net situation → (schedule : List ℕ) × (play strategy net situation ≡ Some schedule) × IsDispatched net edges situation schedule
+    (situation : List ℕ) → IsSituation net situation → (schedule : List ℕ) × (play strategy net situation ≡ Some schedule)
+    × IsDispatched net edges situation schedule
 
--- up to a moment two moments agree: where either comes by then, they are one
+-- up to a moment two moments agree: if either comes by then, they are one
 abbrev pub AgreeUpTo : ℕ → ℕ → ℕ → Type 0
 AgreeUpTo t first second = (first ≤ t → first ≡ second) × (second ≤ t → first ≡ second)
 
@@ -88,9 +89,9 @@ abbrev pub SameExecutions : Plan → ℕ → List ℕ → List ℕ → Type 0
 SameExecutions net t first second =
     (point : PointId) → IsExecutable net point → AgreeUpTo t (moment_in first point) (moment_in second point)
 
--- An execution strategy gives a schedule for every situation. It is dynamic where contingent points come their durations
--- after their activation points, and what is executed up to a moment depends on what is completed up to it alone (Morris,
--- Muscettola and Vidal 2001, as repaired by Hunsberger 2009).
+-- An execution strategy gives a schedule for every situation. It is dynamic if contingent points come their durations after their
+-- activation points, and what is executed up to a moment depends on what is completed up to it alone (Morris, Muscettola and Vidal 2001, as
+-- repaired by Hunsberger 2009).
 pub record IsDynamic (net : Plan) (schedule_of : List ℕ → List ℕ) : Type 0 where
   pub complete : (situation : List ℕ) → IsSituation net situation → length (schedule_of situation) ≡ length net.points
   pub lasting : (situation : List ℕ) (name : LinkId) (link : Link) (duration : ℕ) → IsSituation net situation → IsLinkOf net name link

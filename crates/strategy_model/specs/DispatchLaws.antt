@@ -8,7 +8,8 @@ use Rattle.strategy_model.specs.Situations.{IsSituation, Satisfies, moment_in}
 use Rattle.strategy_model.specs.Plays.{play, IsInstant}
 use Rattle.strategy_model.specs.Control.{Controls, IsControllable, IsEarliest}
 use Rattle.strategy_model.specs.Edges.{HoldsOf, HasNoNegativeCycle}
-use Rattle.strategy_model.specs.Dispatch.{IsClosedList, IsOrder, HoldsBack, awaited, IsDispatched, Dispatches, SameCompletions, SameExecutions, IsDynamic}
+use Rattle.strategy_model.specs.Dispatch.{IsClosedList, IsOrder, HoldsBack, release_moment, IsDispatched, Dispatches, SameCompletions, SameExecutions}
+use Rattle.strategy_model.specs.Dispatch.{IsDynamic}
 use Rattle.strategy_model.specs.declared.tree.Tree.{Tree}
 
 -- edges that are true of every strategy that controls the network
@@ -19,7 +20,8 @@ AreTrue net edges = (strategy : Tree) → Controls strategy net → All (HoldsOf
 -- and waits in every situation
 abbrev pub ClosedListsGiveStrategies : Type 0
 ClosedListsGiveStrategies =
-    (net : Plan) (edges : List Edge) (order : List PointId) → IsInstant net → IsClosedList net edges → IsOrder net edges order → (strategy : Tree) × Controls strategy net × Dispatches strategy net edges
+    (net : Plan) (edges : List Edge) (order : List PointId) → IsInstant net → IsClosedList net edges → IsOrder net edges order
+    → (strategy : Tree) × Controls strategy net × Dispatches strategy net edges
 
 -- the schedule of lower bounds and waits satisfies the network
 abbrev pub DispatchedSatisfy : Type 0
@@ -40,11 +42,11 @@ DispatchedAreOne =
     → IsOrder net edges order → IsSituation net situation → IsDispatched net edges situation first → IsDispatched net edges situation second
     → first ≡ second
 
--- in it an executable point has come by a moment exactly where no edge holds it back beyond that moment
+-- in it an executable point has come by a moment exactly if no edge holds it back beyond that moment
 abbrev pub DispatchedComeOnceFree : Type 0
 DispatchedComeOnceFree =
     (net : Plan) (edges : List Edge) (situation schedule : List ℕ) (point : PointId) (t : ℕ) → IsDispatched net edges situation schedule
-    → IsExecutable net point → (moment_in schedule point ≤ t ↔ ((edge : Edge) → HoldsBack edges point edge → awaited net schedule edge ≤ t))
+    → IsExecutable net point → (moment_in schedule point ≤ t ↔ ((edge : Edge) → HoldsBack edges point edge → release_moment net schedule edge ≤ t))
 
 -- what it executes up to a moment depends on what is completed up to it alone
 abbrev pub DispatchedSeeAlone : Type 0
@@ -66,7 +68,7 @@ TreesAreDynamic =
     (net : Plan) (strategy : Tree) (schedule_of : List ℕ → List ℕ) → IsInstant net
     → ((situation : List ℕ) → IsSituation net situation → play strategy net situation ≡ Some (schedule_of situation)) → IsDynamic net schedule_of
 
--- where the edges of the list are true of every strategy that controls the network, it is the earliest schedule
+-- if the edges of the list are true of every strategy that controls the network, it is the earliest schedule
 abbrev pub DispatchedAreEarliest : Type 0
 DispatchedAreEarliest =
     (net : Plan) (edges : List Edge) (order : List PointId) (situation schedule : List ℕ) → IsInstant net → IsClosedList net edges

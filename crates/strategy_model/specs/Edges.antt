@@ -21,13 +21,14 @@ TakesLongest net situation None = Unit {0}
 TakesLongest net situation (Some label) =
     (link : Link) (duration : ℕ) → slice_get net.links label.0 ≡ Some link → slice_get situation label.0 ≡ Some duration → pos duration ≡ link.high
 
--- An edge is true of a strategy where it holds in its play in every situation, a labelled one where it holds in those
--- in which its link takes its longest duration.
+-- An edge is true of a strategy if it holds in its play in every situation, a labelled one if it holds in those in which its link takes its
+-- longest duration.
 abbrev pub HoldsOf : Plan → Tree → Edge → Type 0
 HoldsOf net strategy edge =
-    (situation schedule : List ℕ) → IsSituation net situation → TakesLongest net situation edge.label → play strategy net situation ≡ Some schedule → HoldsIn schedule edge
+    (situation schedule : List ℕ) → IsSituation net situation → TakesLongest net situation edge.label → play strategy net situation ≡ Some schedule
+    → HoldsIn schedule edge
 
--- edges in a row, from a point to a point: each begins where the one before ended
+-- a walk from a point to a point: edges of which each begins where the one before ended
 abbrev pub IsWalk : PointId → List Edge → PointId → Type 0
 IsWalk from [] to = from ≡ to
 IsWalk from (edge ∷ edges) to = (edge.from ≡ from) × IsWalk edge.to edges to

@@ -1,4 +1,5 @@
--- The play of a strategy in a situation where reaction is instantaneous: a completion is seen at its own moment.
+-- The play of a strategy in a situation, with instantaneous reaction: a completion is seen at its own moment. It is for proofs: the law
+-- `law_no_delay_is_instant` says that these are the plays of a network of which the delay is 0.
 use Rattle.std.specs.Prelude.{ℕ, ◌+◌, ◌==◌, ◌&&◌, ◌||◌, Bool, false, List, [], ◌∷◌, ◌++◌, filter, Option, Some, None, if◌then◌else◌}
 use Rattle.std.specs.Cmp.Lexicographic.{pointwise}
 use Rattle.net_model.specs.Network.{Plan}
@@ -7,7 +8,7 @@ use Rattle.net_model.specs.declared.part.Link.{Link}
 use Rattle.strategy_model.specs.Plays.{PartialSchedule, same_point, moment_so_far, at_moment, points_of, may_act, schedule_made}
 use Rattle.strategy_model.specs.declared.tree.Tree.{Tree, Leaf, Node', Row_of-Case, end_of-Case, more_of-Case}
 
--- a link completes at t where its activation has a moment a with a + duration = t
+-- a link completes at t if its activation has a moment a with a + duration = t
 abbrev pub completes : PartialSchedule → ℕ → Link → ℕ → Bool
 completes so_far t link duration = elim (moment_so_far so_far link.from) [ Some a ↦ (a + duration) == t | None ↦ false ]
 
@@ -28,8 +29,7 @@ abbrev mutual
   instant_from (Node' shape cases) net situation so_far t =
       instant_cases cases net situation so_far t (completed net situation so_far t)
 
-  -- The first case that has just these points as seen is taken. There is no play where none has, or where an act is not
-  -- allowed.
+  -- The first case that has just these points as seen is taken. There is no play if none has, or if an act is not allowed.
   pub instant_cases : {m : _} → Row_of-Case m → Plan → List ℕ → PartialSchedule → ℕ → List PointId → Option (List ℕ)
   instant_cases end_of-Case net situation so_far t points = None
   instant_cases (more_of-Case seen acts next others) net situation so_far t points =

@@ -4,7 +4,8 @@ use Rattle.std.specs.List.{All, AllByRecursion, Contains}
 use Rattle.net_model.specs.Network.{Plan, IsPlan}
 use Rattle.net_model.specs.Edges.{IsLinkOf, IsEdge}
 use Rattle.net_model.specs.Rules.{Follows, IsDerivation}
-use Rattle.net_model.specs.LooseRules.{IsLooseBound, IsLooseLink, IsLooseNoCase, IsLooseUpperCase, IsLooseLowerCase, IsLooseCrossCase, IsLooseRemoval, FollowsLoosely, IsLooseDerivation}
+use Rattle.net_model.specs.LooseRules.{IsLooseBound, IsLooseLink, IsLooseNoCase, IsLooseUpperCase, IsLooseLowerCase, IsLooseCrossCase, IsLooseRemoval}
+use Rattle.net_model.specs.LooseRules.{FollowsLoosely, IsLooseDerivation}
 use Rattle.net_model.specs.declared.ids.PointId.{PointId}
 use Rattle.net_model.specs.declared.ids.LinkId.{LinkId}
 use Rattle.net_model.specs.declared.part.Edge.{Edge}
@@ -55,17 +56,20 @@ UpperCaseKeepsTruth =
 -- what lower-case gives from an edge that is true of a controlling strategy is true of it
 abbrev pub LowerCaseKeepsTruth : Type 0
 LowerCaseKeepsTruth =
-    (net : Plan) (strategy : Tree) (second edge : Edge) → IsInstant net → Controls strategy net → HoldsOf net strategy second → IsLooseLowerCase net second edge → HoldsOf net strategy edge
+    (net : Plan) (strategy : Tree) (second edge : Edge) → IsInstant net → Controls strategy net → HoldsOf net strategy second
+    → IsLooseLowerCase net second edge → HoldsOf net strategy edge
 
 -- what cross-case gives from an edge that is true of a controlling strategy is true of it
 abbrev pub CrossCaseKeepsTruth : Type 0
 CrossCaseKeepsTruth =
-    (net : Plan) (strategy : Tree) (second edge : Edge) → IsInstant net → Controls strategy net → HoldsOf net strategy second → IsLooseCrossCase net second edge → HoldsOf net strategy edge
+    (net : Plan) (strategy : Tree) (second edge : Edge) → IsInstant net → Controls strategy net → HoldsOf net strategy second
+    → IsLooseCrossCase net second edge → HoldsOf net strategy edge
 
 -- what removal gives from an edge that is true of a controlling strategy is true of it
 abbrev pub RemovalKeepsTruth : Type 0
 RemovalKeepsTruth =
-    (net : Plan) (strategy : Tree) (premise edge : Edge) → IsInstant net → Controls strategy net → HoldsOf net strategy premise → IsLooseRemoval net premise edge → HoldsOf net strategy edge
+    (net : Plan) (strategy : Tree) (premise edge : Edge) → IsInstant net → Controls strategy net → HoldsOf net strategy premise
+    → IsLooseRemoval net premise edge → HoldsOf net strategy edge
 
 -- what follows by one rule from edges that are true of a controlling strategy is true of it
 abbrev pub RulesKeepTruth : Type 0
@@ -75,7 +79,8 @@ RulesKeepTruth =
 
 -- every edge of a derivation is true of every strategy that controls the network
 abbrev pub DerivationsAreTrue : Type 0
-DerivationsAreTrue = (net : Plan) (strategy : Tree) (edges : List Edge) → IsInstant net → Controls strategy net → IsLooseDerivation net edges → All (HoldsOf net strategy) edges
+DerivationsAreTrue = (net : Plan) (strategy : Tree) (edges : List Edge) → IsInstant net → Controls strategy net → IsLooseDerivation net edges
+    → All (HoldsOf net strategy) edges
 
 -- what follows by one rule from edges of the network is an edge of it
 abbrev pub RulesKeepEdges : Type 0
@@ -89,12 +94,14 @@ LoopsExcludeSchedules = (schedule : List ℕ) (edges : List Edge) → IsNegative
 -- of no strategy that controls the network is every edge of a closed walk of negative total true
 abbrev pub LoopsExcludeStrategies : Type 0
 LoopsExcludeStrategies =
-    (net : Plan) (strategy : Tree) (edges : List Edge) → IsInstant net → AllByRecursion (HoldsOf net strategy) edges → IsNegativeLoop edges → Controls strategy net → ⊥
+    (net : Plan) (strategy : Tree) (edges : List Edge) → IsInstant net → AllByRecursion (HoldsOf net strategy) edges → IsNegativeLoop edges
+    → Controls strategy net → ⊥
 
 -- a derivation and a closed walk of negative total over its edges exclude every strategy that controls the network
 abbrev pub RefutationsExcludeStrategies : Type 0
 RefutationsExcludeStrategies =
-    (net : Plan) (edges walk : List Edge) → IsInstant net → IsLooseDerivation net edges → All (Contains edges) walk → IsNegativeLoop walk → IsControllable net → ⊥
+    (net : Plan) (edges walk : List Edge) → IsInstant net → IsLooseDerivation net edges → All (Contains edges) walk → IsNegativeLoop walk → IsControllable net
+    → ⊥
 
 -- a closed walk over bounds of negative total excludes every schedule that satisfies the network
 abbrev pub LoopsOfBoundsExcludeSchedules : Type 0
@@ -122,9 +129,11 @@ ExactDerivationsHaveEdges = (net : Plan) (edges : List Edge) → IsPlan net → 
 
 -- and is true of every strategy that controls the network
 abbrev pub ExactDerivationsAreTrue : Type 0
-ExactDerivationsAreTrue = (net : Plan) (strategy : Tree) (edges : List Edge) → IsInstant net → Controls strategy net → IsDerivation net edges → All (HoldsOf net strategy) edges
+ExactDerivationsAreTrue = (net : Plan) (strategy : Tree) (edges : List Edge) → IsInstant net → Controls strategy net → IsDerivation net edges
+    → All (HoldsOf net strategy) edges
 
 -- so a cycle of negative ordinary edges that are derived excludes every strategy that controls the network
 abbrev pub NegativeCyclesExcludeStrategies : Type 0
 NegativeCyclesExcludeStrategies =
-    (net : Plan) (edges cycle : List Edge) → IsInstant net → IsDerivation net edges → All (Contains edges) cycle → IsNegativeCycle cycle → IsControllable net → ⊥
+    (net : Plan) (edges cycle : List Edge) → IsInstant net → IsDerivation net edges → All (Contains edges) cycle → IsNegativeCycle cycle → IsControllable net
+    → ⊥

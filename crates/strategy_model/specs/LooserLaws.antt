@@ -14,4 +14,5 @@ IsLoosened bound other = (bound.from ≡ other.from) × (bound.to ≡ other.to) 
 -- a strategy that controls a network controls it with looser bounds in place of its own
 abbrev pub LooserBoundsKeepControl : Type 0
 LooserBoundsKeepControl =
-    (strategy : Tree) (net : Plan) (bounds : List Bound) → AllZip IsLoosened net.bounds bounds → Controls strategy net → Controls strategy (record net { bounds = bounds })
+    (strategy : Tree) (net : Plan) (bounds : List Bound) → AllZip IsLoosened net.bounds bounds → Controls strategy net
+    → Controls strategy (record net { bounds = bounds })

@@ -2,7 +2,8 @@
 -- completions that were shown up to it, those shown at the moment itself included, and on nothing else (Morris, Muscettola and
 -- Vidal 2001, as repaired by Hunsberger 2009; this project's own choice is that those of the moment itself are seen, and that a
 -- completion is shown the delay after it happened).
-use Rattle.std.specs.Prelude.{◌≡◌, ℕ, ◌+◌, ◌-◌, ◌==◌, ◌&&◌, ◌||◌, not, Bool, true, false, List, [], ◌∷◌, ◌++◌, length, map, filter, Option, Some, None, is_none, nat_lt, if◌then◌else◌}
+use Rattle.std.specs.Prelude.{◌≡◌, ℕ, ◌+◌, ◌-◌, ◌==◌, ◌&&◌, ◌||◌, not, Bool, true, false, List, [], ◌∷◌, ◌++◌, length, map, filter, Option, Some, None, is_none}
+use Rattle.std.specs.Prelude.{nat_lt, if◌then◌else◌}
 use Rattle.std.specs.Option.{option_map}
 use Rattle.std.specs.List.{list_any, range_with_len}
 use Rattle.std.specs.Cmp.Lexicographic.{pointwise}
@@ -28,7 +29,7 @@ moment_so_far (entry ∷ entries) point = if same_point entry.0 point then Some 
 abbrev pub at_moment : ℕ → List PointId → PartialSchedule
 at_moment t points = map (λ point. (point, t)) points
 
--- a link's completion is shown at t where its activation has a moment a with a + duration + delay = t
+-- a link's completion is shown at t if its activation has a moment a with a + duration + delay = t
 abbrev pub shows : Plan → PartialSchedule → ℕ → Link → ℕ → Bool
 shows net so_far t link duration = elim (moment_so_far so_far link.from) [ Some a ↦ (a + duration + net.delay) == t | None ↦ false ]
 
@@ -50,7 +51,8 @@ shown net situation so_far t = filter (is_shown net so_far t net.links situation
 abbrev pub may_act : Plan → PartialSchedule → List PointId → Bool
 may_act net so_far [] = true
 may_act net so_far (act ∷ acts) =
-    nat_lt act.0 (length net.points) && is_none (activation net act) && is_none (moment_so_far so_far act) && not (list_any (same_point act) acts) && may_act net so_far acts
+    nat_lt act.0 (length net.points) && is_none (activation net act) && is_none (moment_so_far so_far act) && not
+    (list_any (same_point act) acts) && may_act net so_far acts
 
 -- all of these are there
 abbrev pub all_some : List (Option ℕ) → Option (List ℕ)
@@ -58,7 +60,7 @@ all_some [] = Some []
 all_some (None ∷ others) = None
 all_some (Some x ∷ others) = option_map (λ xs. x ∷ xs) (all_some others)
 
--- the schedule that was made, where each point has a moment
+-- the schedule that was made, if each point has a moment
 abbrev pub schedule_made : Plan → PartialSchedule → Option (List ℕ)
 schedule_made net so_far = all_some (map (moment_so_far so_far) (points_of net))
 
@@ -69,8 +71,8 @@ abbrev mutual
   play_from (Node' shape cases) net situation so_far t =
       play_cases cases net situation so_far t (shown net situation so_far t)
 
-  -- The first case that has just these points as seen is taken; they happened the delay before. There is no play where none has,
-  -- or where an act is not allowed.
+  -- The first case that has just these points as seen is taken; they happened the delay before. There is no play if none has, or if an act
+  -- is not allowed.
   pub play_cases : {m : _} → Row_of-Case m → Plan → List ℕ → PartialSchedule → ℕ → List PointId → Option (List ℕ)
   play_cases end_of-Case net situation so_far t points = None
   play_cases (more_of-Case seen acts next others) net situation so_far t points =
@@ -89,7 +91,8 @@ case_for (case ∷ cases) points = if pointwise same_point case.seen points then
 abbrev pub play : Tree → Plan → List ℕ → Option (List ℕ)
 play tree net situation = play_from tree net situation [] 0
 
--- a sound network in which reaction is instantaneous: a completion is seen at its own moment
+-- A sound network in which reaction is instantaneous: a completion is seen at its own moment. The laws about what derives, dispatches or
+-- executes are about such networks; every shown form is one.
 pub record IsInstant (net : Plan) : Type 0 where
   pub sound : IsPlan net
   pub no_delay : net.delay ≡ 0

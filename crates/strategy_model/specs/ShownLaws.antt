@@ -14,17 +14,17 @@ use Rattle.strategy_model.specs.Edges.{HoldsIn, HoldsOf, TakesLongest, IsNegativ
 use Rattle.strategy_model.specs.ShownSchedules.{shown_schedule}
 use Rattle.strategy_model.specs.declared.tree.Tree.{Tree}
 
--- where the delay is 0 the plays are those of instantaneous reaction
+-- if the delay is 0 the plays are those of instantaneous reaction
 abbrev pub NoDelayIsInstant : Type 0
 NoDelayIsInstant = (net : Plan) (strategy : Tree) (situation : List ℕ) → net.delay ≡ 0 → play strategy net situation ≡ instant_play strategy net situation
 
--- the play in the shown form is the play as it is shown, and there is one exactly where there is the other
+-- the play in the shown form is the play as it is shown, and there is one exactly if there is the other
 abbrev pub PlaysAreShown : Type 0
 PlaysAreShown =
     (net : Plan) (strategy : Tree) (situation : List ℕ)
     → play strategy (shown_form net) (shown_situation net situation) ≡ option_map (shown_schedule net) (play strategy net situation)
 
--- a schedule satisfies the network exactly where it satisfies the shown form as it is shown
+-- a schedule satisfies the network exactly if it satisfies the shown form as it is shown
 abbrev pub SatisfiesAsShown : Type 0
 SatisfiesAsShown = (net : Plan) (schedule : List ℕ) → IsPlan net → (Satisfies net schedule ↔ Satisfies (shown_form net) (shown_schedule net schedule))
 
@@ -35,11 +35,11 @@ SituationsAreShown =
     → (IsSituation net situation → IsSituation (shown_form net) (shown_situation net situation))
     × (IsSituation (shown_form net) situation → (stated : List ℕ) × IsSituation net stated × (shown_situation net stated ≡ situation))
 
--- a strategy controls a network exactly where it controls the shown form
+-- a strategy controls a network exactly if it controls the shown form
 abbrev pub ControlIsShown : Type 0
 ControlIsShown = (net : Plan) (strategy : Tree) → IsPlan net → (Controls strategy net ↔ Controls strategy (shown_form net))
 
--- so a network is controllable exactly where its shown form is
+-- so a network is controllable exactly if its shown form is
 abbrev pub ControllableIsShown : Type 0
 ControllableIsShown = (net : Plan) → IsPlan net → (IsControllable net ↔ IsControllable (shown_form net))
 
@@ -51,8 +51,8 @@ EarliestIsShown =
     × ((schedule : List ℕ) → IsSituation net situation → IsEarliest (shown_form net) (shown_situation net situation) schedule
     → (stated : List ℕ) × IsEarliest net situation stated × (shown_schedule net stated ≡ schedule))
 
--- an edge is true of a strategy where it holds of the shown moments of its play in every situation, a labelled one where it
--- holds in those in which its link takes its longest duration
+-- an edge is true of a strategy if it holds of the shown moments of its play in every situation, a labelled one if it holds in those in
+-- which its link takes its longest duration
 abbrev pub HoldsAsShown : Plan → Tree → Edge → Type 0
 HoldsAsShown net strategy edge =
     (situation schedule : List ℕ) → IsSituation net situation → TakesLongest net situation edge.label → play strategy net situation ≡ Some schedule
@@ -69,4 +69,5 @@ ShownFormIsInstant = (net : Plan) → IsPlan net → IsInstant (shown_form net)
 -- so a derivation in the shown form and a closed walk of negative total over its edges exclude every strategy that controls the network
 abbrev pub ShownRefutationsExclude : Type 0
 ShownRefutationsExclude =
-    (net : Plan) (edges walk : List Edge) → IsPlan net → IsLooseDerivation (shown_form net) edges → All (Contains edges) walk → IsNegativeLoop walk → IsControllable net → ⊥
+    (net : Plan) (edges walk : List Edge) → IsPlan net → IsLooseDerivation (shown_form net) edges → All (Contains edges) walk → IsNegativeLoop walk
+    → IsControllable net → ⊥

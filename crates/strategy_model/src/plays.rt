@@ -1,25 +1,32 @@
-ghost use Rattle.std.specs.Prelude.{◌≡◌, ◌⊎◌, ◌^◌, ◌≤◌, Some, None, ◌+◌, ◌-◌, ◌++◌, ◌&&◌, length, is_none, nat_lt, IfOk, IfSome, OnOk};
+//! The play of a strategy tree in a situation, moment by moment.
+
+ghost use Rattle.std.specs.Prelude.{◌≡◌, ◌⊎◌, ◌^◌, ◌≤◌, Some, None, ◌+◌, ◌-◌, ◌++◌, ◌&&◌, length};
+ghost use Rattle.std.specs.Prelude.{is_none, nat_lt, IfOk, IfSome, OnOk};
 ghost use Rattle.std.specs.Option.{option_map, option_copied};
 ghost use Rattle.net_model.specs.Network.{activation};
-ghost use Rattle.strategy_model.specs.Plays.{play, moment_so_far, at_moment, shows, is_shown, shown, may_act, case_for, schedule_made};
+ghost use Rattle.strategy_model.specs.Plays.{play, moment_so_far, at_moment, shows, is_shown};
+ghost use Rattle.strategy_model.specs.Plays.{shown, may_act, case_for, schedule_made};
 
 use crate::tree::{Case, Tree};
 use crate::{Schedule, Situation};
 use net_model::{Link, Network, PointId};
 use std::alloc::{AllocError, Global};
 
-/// The schedule that a strategy makes of a network in a situation, which has one duration for each link, each in its
-/// interval. It is `None` exactly where the strategy has no play there: where at some moment no case has just the points
-/// that are shown, or an act is no executable point or was executed before, or where a point has no moment at the
-/// leaf. `AllocError` comes only for want of memory.
+/// The schedule that a strategy makes of a network, with its delay, in a situation, which has one
+/// duration for each link, each in its interval. It is `None` exactly if the strategy has no play
+/// there: if at some moment no case has just the points that are shown, or an act is no executable
+/// point or was executed before, or if a point has no moment at the leaf. `AllocError` comes only
+/// for want of memory.
 pub fn play(
     alloc: Global,
     tree: &Tree,
     net: &Network,
     situation: &Situation,
 ) -> Result<Option<Schedule>, AllocError>
-    ensures played { IfOk result (λ schedule. option_map (λ s. s.items) schedule ≡ play tree.now net.now situation.now.items) }
-    ensures complete { IfOk result (λ schedule. IfSome schedule (λ s. length s.items ≡ length net.now.points)) }
+    ensures played { IfOk result (λ schedule. option_map
+        (λ s. s.items) schedule ≡ play tree.now net.now situation.now.items) }
+    ensures complete { IfOk result
+        (λ schedule. IfSome schedule (λ s. length s.items ≡ length net.now.points)) }
 {
     let mut moments = Vec::new(alloc);
     let mut node = tree;
@@ -68,7 +75,8 @@ fn moment_so_far(so_far: &[(PointId, u64)], point: PointId) -> Option<u64>
 
 /// The moment at which a completion is shown, if it is a moment.
 fn late(activation: u64, duration: u64, delay: u64) -> Option<u64>
-    ensures { (result ≡ Some (activation + duration + delay)) ⊎ ((result ≡ None) × (2 ^ 64 ≤ activation + duration + delay)) }
+    ensures { (result ≡ Some (activation + duration + delay))
+        ⊎ ((result ≡ None) × (2 ^ 64 ≤ activation + duration + delay)) }
 {
     activation.checked_add(duration)?.checked_add(delay)
 }
@@ -146,7 +154,8 @@ fn may_act(net: &Network, so_far: &[(PointId, u64)], acts: &[PointId]) -> bool
 
 /// Whether a point is executable and was not executed before.
 fn may_execute(net: &Network, so_far: &[(PointId, u64)], point: PointId) -> bool
-    ensures { result ≡ (nat_lt point.0 (length net.now.points) && is_none (activation net.now point) && is_none (moment_so_far so_far.now point)) }
+    ensures { result ≡ (nat_lt point.0 (length net.now.points) && is_none
+        (activation net.now point) && is_none (moment_so_far so_far.now point)) }
 {
     (point.0 as usize) < net.points().len()
         && !net.is_contingent(point)
@@ -163,14 +172,16 @@ fn push_at(moments: &mut Vec<(PointId, u64)>, points: &[PointId], t: u64) -> Res
     Ok(())
 }
 
-/// The schedule that was made, where each point has a moment.
+/// The schedule that was made, if each point has a moment.
 fn schedule_made(
     alloc: Global,
     net: &Network,
     so_far: &[(PointId, u64)],
 ) -> Result<Option<Schedule>, AllocError>
-    ensures made { IfOk result (λ schedule. option_map (λ s. s.items) schedule ≡ schedule_made net.now so_far.now) }
-    ensures complete { IfOk result (λ schedule. IfSome schedule (λ s. length s.items ≡ length net.now.points)) }
+    ensures made { IfOk result (λ schedule. option_map
+        (λ s. s.items) schedule ≡ schedule_made net.now so_far.now) }
+    ensures complete { IfOk result
+        (λ schedule. IfSome schedule (λ s. length s.items ≡ length net.now.points)) }
 {
     let mut schedule = Vec::new(alloc);
     for k in 0..net.points().len() {

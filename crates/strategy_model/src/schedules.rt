@@ -1,10 +1,13 @@
+//! Whether a schedule satisfies a network.
+
 ghost use Rattle.std.specs.Prelude.{◌≡◌, ◌<◌, ◌↔◌, length, IsTrue};
 ghost use Rattle.strategy_model.specs.Situations.{Keeps, Satisfies};
 
 use crate::Schedule;
 use net_model::{Bound, Network};
 
-/// Whether a schedule satisfies a network, that is keeps each of its bounds. It has one moment for each point.
+/// Whether a schedule satisfies a network, that is keeps each of its bounds. It has one moment for
+/// each point. It takes no memory.
 pub fn satisfies(schedule: &Schedule, net: &Network) -> bool
     requires { length schedule.now.items ≡ length net.now.points }
     ensures { IsTrue result ↔ Satisfies net.now schedule.now.items }

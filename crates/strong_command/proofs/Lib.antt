@@ -1,5 +1,5 @@
-pub mod AskLemmas
+pub mod StrongAnswerLemmas
 pub mod TimesLemmas
 pub mod KeepLemmas
 pub mod OneLemmas
-pub mod FrontLemmas
+pub mod PrefixLemmas

@@ -4,7 +4,7 @@ use Rattle.std.proofs.Math.ListN.{drop_of_length-le}
 use Rattle.std.proofs.lemmas.Bool.{cases_lt}
 use Rattle.std.proofs.lemmas.List.{drop_more}
 use Rattle.std.proofs.lemmas.Option.{none-some, slice_get_within, get_or_from_slice_get, slice_get-get_or}
-use Rattle.strong_command.specs.Asking.{time_line, times_text}
+use Rattle.strong_command.specs.StrongAnswers.{time_line, times_text}
 
 no_times : (names : List (List ℕ)) → times_text names [] ≡ []
 no_times [] = refl
@@ -21,7 +21,7 @@ pushed before after out names times k name time inside is there grown so_far =
     ∙ (append_assoc before (time_line name time) (times_text (drop (k + 1) names) (drop (k + 1) times))
     ∙ (sym (ap (λ (text : List ℕ). before ++ text) both) ∙ so_far))
 
--- where there are no more moments
+-- if there are no more moments
 pub passed : (before out : List ℕ) (names : List (List ℕ)) (times : List ℕ) (k : ℕ) → slice_get times k ≡ None → before ++ times_text (drop k names) (drop k times) ≡ out → before ++ times_text (drop (k + 1) names) (drop (k + 1) times) ≡ out
 passed before out names times k none so_far =
     elim (cases_lt k (length times)) [

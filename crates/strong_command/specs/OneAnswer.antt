@@ -3,32 +3,33 @@ use Rattle.std.specs.Prelude.{◌≡◌, ◌⊎◌, ℕ, List, ◌++◌}
 use Rattle.texts.specs.Lines.{lines}
 use Rattle.net_model.specs.Network.{Plan}
 use Rattle.strong_plan.specs.Strong.{IsStronglyControllable}
-use Rattle.command_engine.specs.Single.{IsFront}
-use Rattle.command_frame.specs.ExactBytes.{IsFrontOfDefined}
-use Rattle.command_frame.specs.Programs.{Defines}
-use Rattle.command_frame.specs.declared.status.Status.{Status}
-use Rattle.plan_inputs.specs.PlanInput.{plan_in}
-use Rattle.strong_command.specs.Asking.{not_strong_line, strong_program}
-use Rattle.strong_command.specs.declared.asking.AskStrong.{AskStrong}
+use Rattle.command_engine.specs.Single.{IsPrefix}
+use Rattle.command_contracts.specs.ExactBytes.{IsPrefixOfDefined}
+use Rattle.command_contracts.specs.Programs.{Defines}
+use Rattle.command_contracts.specs.declared.status.Status.{Status}
+use Rattle.input_texts.specs.PlanInput.{plan_in}
+use Rattle.strong_command.specs.StrongAnswers.{not_strong_line, strong_program}
+use Rattle.strong_command.specs.declared.strong_question.StrongQuestion.{StrongQuestion}
 
 -- that the network of an input has no strong schedule is put, and more after it; and it has none
-pub record PutsNone (asked : AskStrong) (input put : List ℕ) : Type 0 where
+pub record PutsNone (query : StrongQuestion) (input put : List ℕ) : Type 0 where
   pub net : Plan
   pub rest : List (List ℕ)
-  pub declared : (plan_in asked.form).declares (lines input) net rest
+  pub declared : (plan_in query.form).declares (lines input) net rest
   pub none : ¬ IsStronglyControllable net
   pub more : List ℕ
   pub is : put ≡ not_strong_line ++ more
 
--- For an input `strong` defines one exit status, and the same bytes but where both say that the network has no strong schedule.
-abbrev pub DefinesOneButRefutations : AskStrong → Type 0
-DefinesOneButRefutations asked =
-    (input a b : List ℕ) (x y : Status) → Defines (strong_program asked) input a x → Defines (strong_program asked) input b y
-    → (x ≡ y) × ((a ≡ b) ⊎ (PutsNone asked input a × PutsNone asked input b))
+-- For an input `strong` defines one exit status, and the same bytes except if both say that the network has no strong schedule.
+abbrev pub DefinesOneButRefutations : StrongQuestion → Type 0
+DefinesOneButRefutations query =
+    (input a b : List ℕ) (x y : Status) → Defines (strong_program query) input a x → Defines (strong_program query) input b y
+    → (x ≡ y) × ((a ≡ b) ⊎ (PutsNone query input a × PutsNone query input b))
 
--- What is a front of what `strong` puts for an input is a front of all that it defines, whatever that is, but where that says that the
--- network has no strong schedule: then it is a front of something that `strong` defines and that says so too.
-abbrev pub FrontsAreOfOneButRefutations : AskStrong → Type 0
-FrontsAreOfOneButRefutations asked =
-    (input put all : List ℕ) (status : Status) → IsFrontOfDefined (strong_program asked) input put → Defines (strong_program asked) input all status
-    → IsFront put all ⊎ (PutsNone asked input all × ((whole : List ℕ) × Defines (strong_program asked) input whole status × PutsNone asked input whole × IsFront put whole))
+-- What is a prefix of what `strong` puts for an input is a prefix of all that it defines, whatever that is, except if that says that the network has no strong
+-- schedule: then it is a prefix of something that `strong` defines and that says so too.
+abbrev pub PrefixesAreOfOneButRefutations : StrongQuestion → Type 0
+PrefixesAreOfOneButRefutations query =
+    (input put all : List ℕ) (status : Status) → IsPrefixOfDefined (strong_program query) input put → Defines (strong_program query) input all status
+    → IsPrefix put all ⊎ (PutsNone query input all × ((whole : List ℕ) × Defines (strong_program query) input whole status × PutsNone query input whole
+    × IsPrefix put whole))

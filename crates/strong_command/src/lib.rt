@@ -1,9 +1,12 @@
-//! The command `strong`: one schedule of the executable points for every situation, or a certificate that there is none.
+//! The command `strong`: one schedule of the executable points for every situation, or a
+//! certificate that there is none.
 #![tactic(auto)]
 
-mod asking;
 mod laws;
+mod strong_question;
 mod times;
 
-pub use asking::AskStrong;
-pub use laws::{strong_defines_one_but_refutations, strong_is_lawful, strong_is_read_exactly};
+pub use laws::{
+    law_strong_defines_one_but_refutations, law_strong_is_lawful, law_strong_is_read_exactly,
+};
+pub use strong_question::StrongQuestion;

@@ -3,7 +3,7 @@
 ghost use Rattle.std.specs.Prelude.{◌≡◌, ◌++◌, slice_get, OnOk, IfOk};
 ghost use Rattle.net_model.specs.Network.{IsPoint};
 ghost use Rattle.net_model.specs.NetworkParts.{point_name};
-ghost use Rattle.strong_command.specs.Asking.{executable_names, time_line, times_text};
+ghost use Rattle.strong_command.specs.StrongAnswers.{executable_names, time_line, times_text};
 
 use command_engine::{Answer, Word};
 use net_model::{Name, Network, PointId};

@@ -17,22 +17,22 @@ use Rattle.cert_format.specs.JudgementForms.{◌>>=◌, unless}
 use Rattle.cert_format.specs.declared.strong_cert.StrongLine.{StrongLine}
 use Rattle.cert_checker.specs.Lines.{Passes, bound_of, names_point}
 use Rattle.cert_checker.specs.declared.judgement.CertFault.TheVariants.{WalkBroken, WalkNotNegative}
-use Rattle.cert_checker.proofs.Naming.{bytes_same}
-use Rattle.least_moments.specs.Rounds.{edge_at, no_edge}
+use Rattle.cert_checker.proofs.CertificateNames.{bytes_same}
+use Rattle.earliest_times.specs.Rounds.{edge_at_place, no_edge}
 use Rattle.strong_plan.specs.Numbers.{HasShownNumbers}
-use Rattle.strong_plan.specs.Reducing.{reduced_edge}
-use Rattle.strong_plan.specs.Judgement.{AllPass, refusal, at_place, line_passes, lines_pass, returns_to, total_of, walk_passes, cert_passes}
+use Rattle.strong_plan.specs.ReducedEdges.{reduced_edge}
+use Rattle.strong_plan.specs.Judgement.{AllPass, refusal, refused_at_place, bound_line_passes, bound_lines_pass, lines_return_to, total_of, strong_walk_passes, cert_passes}
 use Rattle.strong_plan.specs.Answers.{AreReduced, reduced_line, lines_at}
 use Rattle.strong_plan.proofs.StrongLemmas.{root_executable}
 use Rattle.strong_plan.proofs.SizeLemmas.{reduced_size}
 use Rattle.strong_plan.proofs.EdgesLemmas.{count, at, reduced_at}
 use Rattle.strong_plan.proofs.NameLemmas.{named_point, has_name, bound_known}
 
--- a line passes where each of its tests does
+-- a line passes if each of its tests does
 line_ok : (net : Plan) (line : StrongLine) (bound : Bound) (edge : Edge) → is_some (point_named net line.from) ≡ true → is_some (point_named net line.to) ≡ true → bound_of net line.bound ≡ Some bound
     → nat_le (unsigned_abs line.weight) most_weight ≡ true → reduced_edge net bound ≡ Some edge → names_point net line.from edge.from ≡ true → names_point net line.to edge.to ≡ true → int_le edge.weight line.weight ≡ true
-    → line_passes net line ≡ Ok tt
-unfolding line_passes
+    → bound_line_passes net line ≡ Ok tt
+unfolding bound_line_passes
 line_ok net line bound edge from to declared range reduced begins ends least = rw (from, to, declared, range, reduced, begins, ends, least) refl
 
 least_itself : (w : ℤ) → int_le w w ≡ true
@@ -46,12 +46,12 @@ module _ (net : Plan) (plan : IsPlan net) (numbers : HasShownNumbers net) (edges
   name_of point = point_name net.points point
 
   abbrev line_at : ℕ → StrongLine
-  line_at place = reduced_line net place (edge_at edges place)
+  line_at place = reduced_line net place (edge_at_place edges place)
 
-  pub passes_at : (place : ℕ) → place < length edges → line_passes net (line_at place) ≡ Ok tt
+  pub passes_at : (place : ℕ) → place < length edges → bound_line_passes net (line_at place) ≡ Ok tt
   passes_at place inside =
       let (bound, declared, reduced) = reduced_at net plan edges are place no_edge inside in
-      let edge = edge_at edges place in
+      let edge = edge_at_place edges place in
       let from = (root_executable net bound.from reduced.from_chain edge.from reduced.from).0 in
       let to = (root_executable net bound.to reduced.to_chain edge.to reduced.to).0 in
       let size = count net plan edges are in
@@ -60,36 +60,37 @@ module _ (net : Plan) (plan : IsPlan net) (numbers : HasShownNumbers net) (edges
       line_ok net (line_at place) (get_or net.bounds place bound) edge (ap is_some (named_point net plan edge.from from)) (ap is_some (named_point net plan edge.to to)) (bound_known net plan place (get_or net.bounds place bound) there)
       range (at net plan edges are place bound no_edge inside) (has_name net plan edge.from from) (has_name net plan edge.to to) (least_itself edge.weight)
 
-  all_pass : (places : List ℕ) (n : ℕ) → AllByRecursion (λ place. place < length edges) places → lines_pass net n (lines_at net edges places) ≡ Ok tt
+  all_pass : (places : List ℕ) (n : ℕ) → AllByRecursion (λ place. place < length edges) places → bound_lines_pass net n (lines_at net edges places) ≡ Ok tt
   all_pass [] n within = refl
   all_pass (place ∷ places) n within =
-      ap (λ (own : Passes). at_place n own >>= (λ _. lines_pass net (n + 1) (lines_at net edges places))) (passes_at place within.0) ∙ all_pass places (n + 1) within.1
+      ap (λ (own : Passes). refused_at_place n own >>= (λ _. bound_lines_pass net (n + 1) (lines_at net edges places))) (passes_at place within.0) ∙ all_pass places (n + 1) within.1
 
   same_name : (one other : PointId) → one ≡ other → bytes_eq (name_of one) (name_of other) ≡ true
   same_name one other same = bytes_same (name_of one) (name_of other) (ap name_of same)
 
-  returns : (place : ℕ) (places : List ℕ) (n : ℕ) (from to : PointId) → IsWalk from (map (edge_at edges) (place ∷ places)) to → returns_to (name_of to) n (line_at place) (lines_at net edges places) ≡ Ok tt
+  returns : (place : ℕ) (places : List ℕ) (n : ℕ) (from to : PointId) → IsWalk from (map (edge_at_place edges) (place ∷ places)) to → lines_return_to (name_of to) n (line_at place) (lines_at net edges places) ≡ Ok tt
   returns place [] n from to walk =
-      ap (λ (b : Bool). unless b (refusal n WalkBroken)) (same_name (edge_at edges place).to to walk.1)
+      ap (λ (b : Bool). unless b (refusal n WalkBroken)) (same_name (edge_at_place edges place).to to walk.1)
   returns place (next ∷ places) n from to walk =
-      ap (λ (b : Bool). unless b (refusal (n + 1) WalkBroken) >>= (λ _. returns_to (name_of to) (n + 1) (line_at next) (lines_at net edges places))) (same_name (edge_at edges next).from (edge_at edges place).to walk.1.0)
-      ∙ returns next places (n + 1) (edge_at edges place).to to walk.1
+      ap (λ (b : Bool). unless b (refusal (n + 1) WalkBroken) >>= (λ _. lines_return_to (name_of to) (n + 1) (line_at next) (lines_at net edges places))) (same_name (edge_at_place edges next).from (edge_at_place edges place).to walk.1.0)
+      ∙ returns next places (n + 1) (edge_at_place edges place).to to walk.1
 
-  totals : (places : List ℕ) → total_of (lines_at net edges places) ≡ total (map (edge_at edges) places)
+  totals : (places : List ℕ) → total_of (lines_at net edges places) ≡ total (map (edge_at_place edges) places)
   totals [] = refl
-  totals (place ∷ places) = ap (λ (sum : ℤ). (edge_at edges place).weight +ℤ sum) (totals places)
+  totals (place ∷ places) = ap (λ (sum : ℤ). (edge_at_place edges place).weight +ℤ sum) (totals places)
 
-  pub walk_ok : (places : List ℕ) (point : PointId) → 0 < length places → IsWalk point (map (edge_at edges) places) point → total (map (edge_at edges) places) <ℤ pos 0 → walk_passes (lines_at net edges places) ≡ Ok tt
+  pub walk_ok : (places : List ℕ) (point : PointId) → 0 < length places → IsWalk point (map (edge_at_place edges) places) point → total (map (edge_at_place edges) places) <ℤ pos 0 → strong_walk_passes (lines_at net edges places) ≡ Ok tt
   walk_ok [] point some walk negative = absurd (omega (arith, some))
   walk_ok (place ∷ places) point some walk negative =
       let lines = lines_at net edges (place ∷ places) in
       let sum = totals (place ∷ places) in
       let end = unless (int_lt (total_of lines) (pos 0)) (refusal (1 + length (lines_at net edges places)) (WalkNotNegative (total_of lines))) in
-      let closed : returns_to (name_of (edge_at edges place).from) 1 (line_at place) (lines_at net edges places) ≡ Ok tt = ap (λ (p : PointId). returns_to (name_of p) 1 (line_at place) (lines_at net edges places)) walk.0 ∙ returns place places 1 point point walk in
+      let closed : lines_return_to (name_of (edge_at_place edges place).from) 1 (line_at place) (lines_at net edges places) ≡ Ok tt = ap (λ (p : PointId). lines_return_to (name_of p) 1 (line_at place) (lines_at net edges places)) walk.0
+      ∙ returns place places 1 point point walk in
       ap (λ (r : AllPass). r >>= (λ _. end)) closed
       ∙ ap (λ (b : Bool). unless b (refusal (1 + length (lines_at net edges places)) (WalkNotNegative (total_of lines)))) (below_zero (total_of lines) (subst (λ (w : ℤ). w <ℤ pos 0) (sym sum) negative))
 
-  pub bounds_pass : (places : List ℕ) (point : PointId) → 0 < length places → AllByRecursion (λ place. place < length edges) places → IsWalk point (map (edge_at edges) places) point → total (map (edge_at edges) places) <ℤ pos 0
+  pub bounds_pass : (places : List ℕ) (point : PointId) → 0 < length places → AllByRecursion (λ place. place < length edges) places → IsWalk point (map (edge_at_place edges) places) point → total (map (edge_at_place edges) places) <ℤ pos 0
       → cert_passes net (lines_at net edges places) [] ≡ Ok tt
   bounds_pass places point some within walk negative =
-      ap (λ (r : AllPass). r >>= (λ _. walk_passes (lines_at net edges places))) (all_pass places 1 within) ∙ walk_ok places point some walk negative
+      ap (λ (r : AllPass). r >>= (λ _. strong_walk_passes (lines_at net edges places))) (all_pass places 1 within) ∙ walk_ok places point some walk negative

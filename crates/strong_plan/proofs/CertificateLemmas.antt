@@ -11,14 +11,14 @@ use Rattle.net_model.specs.declared.part.Edge.{Edge}
 use Rattle.cert_format.specs.StrongWords.{HasStrongWeight}
 use Rattle.cert_format.specs.declared.strong_cert.StrongCert.{StrongCert}
 use Rattle.cert_format.specs.declared.strong_cert.StrongLine.{StrongLine}
-use Rattle.least_moments.specs.Rounds.{edge_at, no_edge}
-use Rattle.least_moments.specs.Least.{IsLoop, IsLoopFromLowest}
-use Rattle.least_moments.proofs.TurnLemmas.{loop_some}
+use Rattle.earliest_times.specs.Rounds.{edge_at_place, no_edge}
+use Rattle.earliest_times.specs.Least.{IsLoop, IsLoopFromLowest}
+use Rattle.earliest_times.proofs.TurnLemmas.{loop_some}
 use Rattle.strong_plan.specs.Numbers.{HasShownNumbers}
-use Rattle.strong_plan.specs.Judgement.{AllPass, cert_passes, judged, judgement_of}
-use Rattle.strong_plan.specs.Answers.{down_edge, AreReduced, HasNoRing, points_at, names_at, lines_at, IsFromLowest, IsRefutation}
+use Rattle.strong_plan.specs.Judgement.{AllPass, cert_passes, strong_judged, judgement_of}
+use Rattle.strong_plan.specs.Answers.{down_edge, AreReduced, HasNoRing, points_at, names_at, lines_at, IsFromLowest, IsStrongRefutation}
 use Rattle.strong_plan.specs.declared.judgement.StrongJudgement.TheVariants.{Accepted}
-use Rattle.strong_plan.proofs.JudgeLemmas.{accepted_excludes}
+use Rattle.strong_plan.proofs.JudgeLemmas.{law_accepted_excludes}
 use Rattle.strong_plan.proofs.SizeLemmas.{reduced_size}
 use Rattle.strong_plan.proofs.EdgesLemmas.{reduced_at}
 use Rattle.strong_plan.proofs.RingLemmas.{all_linked, ring_passes, names_same}
@@ -28,12 +28,12 @@ use Rattle.strong_plan.proofs.BoundLinesLemmas.{bounds_pass}
 loop_points : (edges : List Edge) (places : List ℕ) → IsLoopFromLowest edges places → IsFromLowest (points_at edges places)
 loop_points edges places from_lowest = record {
   once = λ i j d less here same.
-      let size = length-map places (λ (place : ℕ). (edge_at edges place).from) in
+      let size = length-map places (λ (place : ℕ). (edge_at_place edges place).from) in
       let one = point_of i d (omega (arith, less, here, size)) in
       let other = point_of j d (omega (arith, here, size)) in
       from_lowest.loop.once i j 0 less (omega (arith, here, size)) (ap (λ (p : PointId). p.0) (sym one) ∙ same ∙ ap (λ (p : PointId). p.0) other);
   lowest = λ k here.
-      let size = length-map places (λ (place : ℕ). (edge_at edges place).from) in
+      let size = length-map places (λ (place : ℕ). (edge_at_place edges place).from) in
       let inside : k < length places = omega (arith, here, size) in
       let zero : PointId = record { 0 = 0 } in
       let first = ap (λ (p : PointId). p.0) (point_of 0 zero (omega (arith, inside))) in
@@ -42,20 +42,20 @@ loop_points edges places from_lowest = record {
       omega (arith, first, at, least);
 }
   where
-    point_of : (k : ℕ) (d : PointId) → k < length places → get_or (points_at edges places) k d ≡ (edge_at edges (get_or places k 0)).from
-    point_of k d inside = get_or-map (λ (place : ℕ). (edge_at edges place).from) places k 0 d inside
+    point_of : (k : ℕ) (d : PointId) → k < length places → get_or (points_at edges places) k d ≡ (edge_at_place edges (get_or places k 0)).from
+    point_of k d inside = get_or-map (λ (place : ℕ). (edge_at_place edges place).from) places k 0 d inside
 
 accept : (net : Plan) (cert : StrongCert) (passes : AllPass) → cert_passes net cert.by cert.ring ≡ passes → passes ≡ Ok tt → judgement_of net cert ≡ Accepted
-accept net cert passes is ok = ap judged (is ∙ ok)
+accept net cert passes is ok = ap strong_judged (is ∙ ok)
 
 not_empty : (names : List (List ℕ)) → 0 < length names → names ≢ []
 not_empty [] some = absurd (omega (arith, some))
 not_empty (name ∷ names) some = λ none. absurd cc
 
-pub ring_refutes : (net : Plan) → IsPlan net → (places : List ℕ) → IsLoopFromLowest (map down_edge net.links) places → IsRefutation net (record { by = []; ring = names_at net (map down_edge net.links) places })
+pub ring_refutes : (net : Plan) → IsPlan net → (places : List ℕ) → IsLoopFromLowest (map down_edge net.links) places → IsStrongRefutation net (record { by = []; ring = names_at net (map down_edge net.links) places })
 ring_refutes net plan places from_lowest = record {
   accepted = accepted;
-  excludes = λ strongly. accepted_excludes net cert plan accepted strongly;
+  excludes = λ strongly. law_accepted_excludes net cert plan accepted strongly;
   rings_first = λ links ring. not_empty cert.ring (omega (arith, names, count, some));
   points = points_at edges places;
   named = refl;
@@ -77,23 +77,24 @@ ring_refutes net plan places from_lowest = record {
     some = loop_some edges places loop
 
     count : length (points_at edges places) ≡ length places
-    count = length-map places (λ (place : ℕ). (edge_at edges place).from)
+    count = length-map places (λ (place : ℕ). (edge_at_place edges place).from)
 
     names : length (names_at net edges places) ≡ length (points_at edges places)
     names = length-map (points_at edges places) (point_name net.points)
 
     passes : cert_passes net [] (names_at net edges places) ≡ Ok tt
     passes =
-        let size = length-map places (edge_at edges) in
-        ap (cert_passes net []) (sym (names_same net plan edges places)) ∙ ring_passes net plan (map (edge_at edges) places) loop.negative.0 (omega (arith, size, some)) loop.negative.1 (all_linked net places loop.within)
+        let size = length-map places (edge_at_place edges) in
+        ap (cert_passes net []) (sym (names_same net plan edges places)) ∙ ring_passes net plan (map (edge_at_place edges) places) loop.negative.0 (omega (arith, size, some)) loop.negative.1 (all_linked net places loop.within)
 
     accepted : judgement_of net cert ≡ Accepted
     accepted = accept net cert (cert_passes net [] (names_at net edges places)) refl passes
 
-pub bounds_refute : (net : Plan) → IsPlan net → HasShownNumbers net → HasNoRing net → (edges : List Edge) → AreReduced net edges → (places : List ℕ) → IsLoopFromLowest edges places → IsRefutation net (record { by = lines_at net edges places; ring = [] })
+pub bounds_refute : (net : Plan) → IsPlan net → HasShownNumbers net → HasNoRing net → (edges : List Edge) → AreReduced net edges → (places : List ℕ) → IsLoopFromLowest edges places
+    → IsStrongRefutation net (record { by = lines_at net edges places; ring = [] })
 bounds_refute net plan numbers no_ring edges are places from_lowest = record {
   accepted = accepted;
-  excludes = λ strongly. accepted_excludes net cert plan accepted strongly;
+  excludes = λ strongly. law_accepted_excludes net cert plan accepted strongly;
   rings_first = λ links ring. absurd (no_ring links ring);
   points = points_at edges places;
   named = append-nil (map (λ (line : StrongLine). line.from) (lines_at net edges places)) ∙ from_names places;
@@ -110,13 +111,13 @@ bounds_refute net plan numbers no_ring edges are places from_lowest = record {
 
     from_names : (ks : List ℕ) → map (λ (line : StrongLine). line.from) (lines_at net edges ks) ≡ names_at net edges ks
     from_names [] = refl
-    from_names (k ∷ ks) = ap (λ (ns : List (List ℕ)). point_name net.points (edge_at edges k).from ∷ ns) (from_names ks)
+    from_names (k ∷ ks) = ap (λ (ns : List (List ℕ)). point_name net.points (edge_at_place edges k).from ∷ ns) (from_names ks)
 
     small : (ks : List ℕ) → AllByRecursion (λ place. place < length edges) ks → AllByRecursion HasStrongWeight (lines_at net edges ks)
     small [] within = tt
     small (k ∷ ks) within =
         let (bound, declared, reduced) = reduced_at net plan edges are k no_edge within.0 in
-        let size = reduced_size net plan numbers bound (edge_at edges k) declared reduced in
+        let size = reduced_size net plan numbers bound (edge_at_place edges k) declared reduced in
         (omega (arith, size), small ks within.1)
 
     passes : cert_passes net (lines_at net edges places) [] ≡ Ok tt

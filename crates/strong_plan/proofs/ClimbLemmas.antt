@@ -14,10 +14,10 @@ use Rattle.net_model.specs.declared.part.Link.{Link}
 use Rattle.strategy_model.proofs.PlayLemmas.{link_sound}
 use Rattle.strategy_model.proofs.MomentLemmas.{same_from_number}
 use Rattle.strong_plan.specs.Chains.{IsChain, ends, goes_on, same_end, apart, sum_of, reduced_weight}
-use Rattle.strong_plan.specs.Reducing.{link_into, chain_of, links_of, root_of}
+use Rattle.strong_plan.specs.ReducedEdges.{link_into, chain_of, links_of, root_of}
 use Rattle.strong_plan.proofs.ChainLemmas.{one_chain, not_within}
 use Rattle.strong_plan.proofs.SumLemmas.{apart_skip, apart_keep, each_among}
-use Rattle.strong_plan.proofs.ReducingLemmas.{into_link, chain_sound}
+use Rattle.strong_plan.proofs.ReducedEdgeLemmas.{into_link, chain_sound}
 
 -- a link that the other chain hasn't
 pub weight_from : (most : ℤ) (link : Link) (c d : List Link) → list_any (same_end link) d ≡ false → reduced_weight most (link ∷ c) d ≡ reduced_weight (most +ℤ link.low) c d
@@ -61,7 +61,7 @@ pub record IsClimb (net : Plan) (target : ℤ) (from to : PointId) (from_left to
   pub above : neg_ℤ (pos (2000000000 * (4001 - (from_left + to_left)))) ≤ℤ weight
   pub below : weight ≤ℤ pos (2000000000 * (4001 - (from_left + to_left)))
 
--- where a climb has links left, its point has one
+-- if a climb has links left, its point has one
 pub has_link : (net : Plan) → IsPlan net → (point : PointId) (chain : List Link) (root : PointId) → IsChain net point chain root → 1 ≤ length chain → (link : Link) × (link_into net point ≡ Some link)
 has_link net plan _ _ _ (ends point executable) some = absurd (omega (arith, some))
 has_link net plan _ _ _ (goes_on name link chain point root declared to rest) some = (link, into_link net plan name link point declared to)
@@ -170,7 +170,7 @@ climbed_up net target from to from_left to_left weight climb up =
     let other : climb.to_chain ≡ [] = nil_from_length climb.to_chain (omega (arith, to_count, up)) in
     sym (weight_same weight []) ∙ (λ i. reduced_weight weight (sym one i) (sym other i)) ∙ climb.left
 
--- a climb begins with two chains
+-- a climb starts with two chains
 pub climb_begins : (net : Plan) → IsPlan net → (bound : Bound) (from_links to_links : ℕ) → IsBound net bound → option_map length (chain_of net bound.from) ≡ Some from_links → option_map length (chain_of net bound.to) ≡ Some to_links
     → IsClimb net (reduced_weight bound.most (links_of net bound.from) (links_of net bound.to)) bound.from bound.to from_links to_links bound.most
 climb_begins net plan bound from_links to_links sound from to = by (chain_of net bound.from) (chain_of net bound.to) refl refl from to
@@ -204,7 +204,7 @@ climb_begins net plan bound from_links to_links sound from to = by (chain_of net
           below = omega (arith, ints, size, few);
         }
 
--- both chains have a link where one of them is climbed
+-- both chains have a link if one of them is climbed
 pub from_has : (net : Plan) → IsPlan net → (target : ℤ) (from to : PointId) (from_left to_left : ℕ) (weight : ℤ) → IsClimb net target from to from_left to_left weight → 1 ≤ from_left → IsSome (link_into net from)
 from_has net plan target from to from_left to_left weight climb some =
     let count = climb.from_count in

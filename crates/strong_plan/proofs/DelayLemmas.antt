@@ -17,7 +17,7 @@ use Rattle.strategy_model.specs.Plays.{points_of}
 use Rattle.strategy_model.specs.DispatchLaws.{DynamicStrategiesAreTrees}
 use Rattle.strategy_model.specs.ShownSchedules.{shown_schedule}
 use Rattle.strategy_model.proofs.PlayLemmas.{link_sound}
-use Rattle.strategy_model.proofs.ShownFormLemmas.{moment_in_shown, satisfies_shown, situation_stated, controllable_is_shown, shown_form_is_instant}
+use Rattle.strategy_model.proofs.ShownFormLemmas.{moment_in_shown, satisfies_shown, situation_stated, law_controllable_is_shown, law_shown_form_is_instant}
 use Rattle.strategy_model.proofs.ShownPlayLemmas.{activation_shown}
 use Rattle.strong_plan.specs.Strong.{IsRightIn, IsStrongSchedule}
 use Rattle.strong_plan.specs.Laws.{StrongIsControllable}
@@ -71,8 +71,10 @@ module _ (net : Plan) (plan : IsPlan net) where
       stated : List PointId
       stated = filter (λ p. is_none (activation net p)) points
 
-      by : (b : Bool) → is_none (activation net point) ≡ b → map (moment_in (shown_schedule net schedule)) (filter (λ p. is_none (activation (shown_form net) p)) points) ≡ map (moment_in schedule) (filter (λ p. is_none (activation net p)) points)
-          → map (moment_in (shown_schedule net schedule)) (cond (is_none (activation (shown_form net) point)) (point ∷ filter (λ p. is_none (activation (shown_form net) p)) points) (filter (λ p. is_none (activation (shown_form net) p)) points))
+      by : (b : Bool) → is_none (activation net point) ≡ b → map (moment_in (shown_schedule net schedule)) (filter (λ p. is_none (activation (shown_form net) p)) points) ≡ map (moment_in schedule)
+          (filter (λ p. is_none (activation net p)) points)
+          → map (moment_in (shown_schedule net schedule)) (cond (is_none (activation (shown_form net) point)) (point ∷ filter (λ p. is_none (activation (shown_form net) p)) points)
+          (filter (λ p. is_none (activation (shown_form net) p)) points))
           ≡ map (moment_in schedule) (cond (is_none (activation net point)) (point ∷ filter (λ p. is_none (activation net p)) points) (filter (λ p. is_none (activation net p)) points))
       by true is rest =
           let shown_is : is_none (activation (shown_form net) point) ≡ true = ap is_none (activation_shown net point) ∙ is in
@@ -112,6 +114,6 @@ module _ (net : Plan) (plan : IsPlan net) where
         (shown_schedule net schedule, subst (λ (s : List ℕ). IsRightIn (shown_form net) times s (shown_schedule net schedule)) same (right_as_shown times stated schedule right));
   }
 
-pub strong_is_controllable : DynamicStrategiesAreTrees → StrongIsControllable
-strong_is_controllable trees net plan (times, strong) =
-    (controllable_is_shown net plan).1 (instant_is_controllable trees (shown_form net) (shown_form_is_instant net plan) (times, strong_as_shown net plan times strong))
+pub law_strong_is_controllable : DynamicStrategiesAreTrees → StrongIsControllable
+law_strong_is_controllable trees net plan (times, strong) =
+    (law_controllable_is_shown net plan).1 (instant_is_controllable trees (shown_form net) (law_shown_form_is_instant net plan) (times, strong_as_shown net plan times strong))

@@ -9,17 +9,17 @@ use Rattle.net_model.specs.declared.part.Bound.{Bound}
 use Rattle.net_model.specs.declared.part.Edge.{Edge}
 use Rattle.net_model.specs.declared.part.Link.{Link}
 use Rattle.strategy_model.specs.Edges.{HoldsIn}
-use Rattle.least_moments.specs.History.{AreWithin}
-use Rattle.least_moments.specs.Least.{AreLeast}
+use Rattle.earliest_times.specs.History.{AreWithin}
+use Rattle.earliest_times.specs.Least.{AreLeast}
 use Rattle.strong_plan.specs.Strong.{executed_in, IsLeastStrongSchedule}
 use Rattle.strong_plan.specs.Chains.{IsReduced, reduced_weight}
-use Rattle.strong_plan.specs.Reducing.{edge_between, reduced_edge}
+use Rattle.strong_plan.specs.ReducedEdges.{edge_between, reduced_edge}
 use Rattle.strong_plan.specs.Answers.{AreReduced}
 use Rattle.strong_plan.specs.Laws.{HasRoots, KeepsReduced}
 use Rattle.strong_plan.proofs.StrongLemmas.{root_executable}
-use Rattle.strong_plan.proofs.ReducingLemmas.{chain_found}
+use Rattle.strong_plan.proofs.ReducedEdgeLemmas.{chain_found}
 use Rattle.strong_plan.proofs.JudgeLemmas.{reduced_sound}
-use Rattle.strong_plan.proofs.ExcludeLemmas.{least_kept_is_least}
+use Rattle.strong_plan.proofs.ExcludeLemmas.{law_least_kept_is_least}
 
 -- a reduced edge is the one that is found
 found : (net : Plan) → IsPlan net → (bound : Bound) (edge : Edge) → IsReduced net bound edge → reduced_edge net bound ≡ Some edge
@@ -68,7 +68,7 @@ module _ (net : Plan) (plan : IsPlan net) (edges : List Edge) (are : AreReduced 
 
   pub moments_least : HasRoots net → (moments : List ℕ) → AreLeast (length net.points) edges moments → IsLeastStrongSchedule net (executed_in net moments)
   moments_least roots moments least =
-      least_kept_is_least net moments plan roots (keeps_edges moments least.keep) (λ other keeps point executable. least.least other (edges_hold other keeps) point executable.0)
+      law_least_kept_is_least net moments plan roots (keeps_edges moments least.keep) (λ other keeps point executable. least.least other (edges_hold other keeps) point executable.0)
 
 pub has_reduced : (net : Plan) → IsPlan net → HasRoots net → (bound : Bound) → IsBound net bound → IsSome (reduced_edge net bound)
 has_reduced net plan roots bound sound =

@@ -16,7 +16,7 @@ use Rattle.strategy_model.proofs.CompareLemmas.{duration_of, at_least_1}
 use Rattle.strong_plan.specs.Strong.{executed_in, IsRightIn}
 use Rattle.strong_plan.specs.Chains.{IsAllowed, IsLinkWalk}
 use Rattle.strong_plan.specs.Laws.{KeepsReduced, LoopsExcludeStrong, RingsExcludeStrong, LeastKeptIsLeast}
-use Rattle.strong_plan.proofs.StrongLemmas.{reduced_kept, reduced_edges_suffice, each_point, none_false}
+use Rattle.strong_plan.proofs.StrongLemmas.{reduced_kept, law_reduced_edges_suffice, each_point, none_false}
 
 allowed_holds : (net : Plan) (schedule : List ℕ) → KeepsReduced net schedule → (edge : Edge) → IsAllowed net edge → HoldsIn schedule edge
 allowed_holds net schedule keeps edge allowed =
@@ -30,14 +30,15 @@ all_hold : (net : Plan) (schedule : List ℕ) → KeepsReduced net schedule → 
 all_hold net schedule keeps [] all = tt
 all_hold net schedule keeps (edge ∷ edges) all = (allowed_holds net schedule keeps edge all.0, all_hold net schedule keeps edges all.1)
 
-pub loops_exclude_strong : LoopsExcludeStrong
-loops_exclude_strong net edges plan all loop strongly =
+pub law_loops_exclude_strong : LoopsExcludeStrong
+law_loops_exclude_strong net edges plan all loop strongly =
     let (times, strong) = strongly in
     let (schedule, right) = strong.right (longest_of net.links) (longest_situation net plan) in
     loops_exclude schedule edges loop (all_hold net schedule (reduced_kept net times schedule plan strong right.has) edges all)
 
 -- along links a schedule goes on
-later : (net : Plan) → IsPlan net → (times schedule : List ℕ) → IsRightIn net times (longest_of net.links) schedule → (from to : PointId) (links : List Link) → IsLinkWalk net from links to → moment_in schedule from + length links ≤ moment_in schedule to
+later : (net : Plan) → IsPlan net → (times schedule : List ℕ) → IsRightIn net times (longest_of net.links) schedule → (from to : PointId) (links : List Link) → IsLinkWalk net from links to
+    → moment_in schedule from + length links ≤ moment_in schedule to
 later net plan times schedule right from to [] walk =
     let same : moment_in schedule from ≡ moment_in schedule to = ap (moment_in schedule) walk in
     omega (arith, same)
@@ -54,8 +55,8 @@ nonempty : (links : List Link) → links ≢ [] → 1 ≤ length links
 nonempty [] some = absurd (some refl)
 nonempty (link ∷ links) some = omega arith
 
-pub rings_exclude_strong : RingsExcludeStrong
-rings_exclude_strong net links plan ring strongly =
+pub law_rings_exclude_strong : RingsExcludeStrong
+law_rings_exclude_strong net links plan ring strongly =
     let (times, strong) = strongly in
     let (schedule, right) = strong.right (longest_of net.links) (longest_situation net plan) in
     let (point, walk, some) = ring in
@@ -73,10 +74,10 @@ map_below f g test (point ∷ points) all = by (test point) refl (map_below f g 
     by true passes rest = (all.0 passes, rest)
     by false fails rest = rest
 
-pub least_kept_is_least : LeastKeptIsLeast
-least_kept_is_least net schedule plan roots keeps least =
+pub law_least_kept_is_least : LeastKeptIsLeast
+law_least_kept_is_least net schedule plan roots keeps least =
     record {
-      strong = reduced_edges_suffice net schedule plan roots keeps;
+      strong = law_reduced_edges_suffice net schedule plan roots keeps;
       least = λ other strong.
           let (its, right) = strong.right (longest_of net.links) (longest_situation net plan) in
           let kept = reduced_kept net other its plan strong right.has in

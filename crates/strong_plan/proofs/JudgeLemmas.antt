@@ -20,16 +20,16 @@ use Rattle.net_model.specs.declared.part.Link.{Link}
 use Rattle.strategy_model.specs.Edges.{IsWalk, total, IsNegativeLoop}
 use Rattle.strategy_model.proofs.MomentLemmas.{same_from_number}
 use Rattle.strong_plan.specs.Chains.{IsReduced, IsAllowed, IsLinkWalk}
-use Rattle.strong_plan.specs.Reducing.{link_into, chain_of, edge_between, reduced_edge}
+use Rattle.strong_plan.specs.ReducedEdges.{link_into, chain_of, edge_between, reduced_edge}
 use Rattle.cert_format.specs.JudgementForms.{◌>>=◌, unless, there}
 use Rattle.cert_format.specs.declared.strong_cert.StrongLine.{StrongLine}
 use Rattle.cert_checker.specs.Lines.{Passes, bound_of, names_point, link_named}
 use Rattle.cert_checker.specs.declared.judgement.CertFault.TheVariants.{UnknownItem, WeightRange, Ends, TooLow, WalkBroken, WalkNotNegative}
-use Rattle.strong_plan.specs.Judgement.{AllPass, refusal, at_place, line_passes, lines_pass, returns_to, total_of, walk_passes, points_pass, begins_in, follows, last_name, cert_passes, judged}
+use Rattle.strong_plan.specs.Judgement.{AllPass, refusal, refused_at_place, bound_line_passes, bound_lines_pass, lines_return_to, total_of, strong_walk_passes, points_pass, begins_in, follows, last_name, cert_passes, strong_judged}
 use Rattle.strong_plan.specs.Laws.{AcceptedExcludes}
 use Rattle.strong_plan.specs.declared.judgement.StrongJudgement.TheVariants.{Accepted}
-use Rattle.strong_plan.proofs.ReducingLemmas.{chain_sound, into_some}
-use Rattle.strong_plan.proofs.ExcludeLemmas.{loops_exclude_strong, rings_exclude_strong}
+use Rattle.strong_plan.proofs.ReducedEdgeLemmas.{chain_sound, into_some}
+use Rattle.strong_plan.proofs.ExcludeLemmas.{law_loops_exclude_strong, law_rings_exclude_strong}
 
 -- ---- steps that pass
 unless_ok : {E B : Type 0} (b : Bool) (why : E) (rest : Result B E) (done : B) → (unless b why >>= (λ _. rest)) ≡ Ok done → (b ≡ true) × (rest ≡ Ok done)
@@ -44,7 +44,7 @@ last_ok : {E : Type 0} (b : Bool) (why : E) → unless b why ≡ Ok tt → b ≡
 last_ok true why passes = refl
 last_ok false why passes = absurd cc
 
-place_ok : (place : ℕ) (own : Passes) (rest : AllPass) → (at_place place own >>= (λ _. rest)) ≡ Ok tt → (own ≡ Ok tt) × (rest ≡ Ok tt)
+place_ok : (place : ℕ) (own : Passes) (rest : AllPass) → (refused_at_place place own >>= (λ _. rest)) ≡ Ok tt → (own ≡ Ok tt) × (rest ≡ Ok tt)
 place_ok place (Ok done) rest passes = (refl, passes)
 place_ok place (Err why) rest passes = absurd cc
 
@@ -93,8 +93,8 @@ record IsLineOf (net : Plan) (line : StrongLine) : Type 0 where
   to : point_named net line.to ≡ Some edge.to
   at_least : edge.weight ≤ℤ line.weight
 
-line_of : (net : Plan) → IsPlan net → (line : StrongLine) → line_passes net line ≡ Ok tt → IsLineOf net line
-unfolding line_passes
+line_of : (net : Plan) → IsPlan net → (line : StrongLine) → bound_line_passes net line ≡ Ok tt → IsLineOf net line
+unfolding bound_line_passes
 line_of net plan line passes =
     let (known, step) = unless_ok (is_some (point_named net line.from) && is_some (point_named net line.to)) UnknownItem _ tt passes in
     let (bound, named, step') = there_ok (bound_of net line.bound) UnknownItem _ tt step in
@@ -115,10 +115,10 @@ line_of net plan line passes =
       at_least = grind (arith, ints);
     }
 
-lines_of : (net : Plan) → IsPlan net → (place : ℕ) (lines : List StrongLine) → lines_pass net place lines ≡ Ok tt → AllByRecursion (IsLineOf net) lines
+lines_of : (net : Plan) → IsPlan net → (place : ℕ) (lines : List StrongLine) → bound_lines_pass net place lines ≡ Ok tt → AllByRecursion (IsLineOf net) lines
 lines_of net plan place [] passes = tt
 lines_of net plan place (line ∷ lines) passes =
-    let (own, rest) = place_ok place (line_passes net line) (lines_pass net (place + 1) lines) passes in
+    let (own, rest) = place_ok place (bound_line_passes net line) (bound_lines_pass net (place + 1) lines) passes in
     (line_of net plan line own, lines_of net plan (place + 1) lines rest)
 
 -- ---- the walk
@@ -134,7 +134,15 @@ unfolding edges_by edge_by
 all_allowed net [] all = tt
 all_allowed net (line ∷ lines) all =
     let its = all.0 in (
-      record { bound = its.bound; declared = (its.place, slice_get_within net.bounds its.place its.bound its.declared, get_or_from_slice_get net.bounds its.place its.bound its.bound its.declared); reduced = its.edge; is = its.is; from = refl; to = refl; at_least = its.at_least },
+      record {
+        bound = its.bound;
+        declared = (its.place, slice_get_within net.bounds its.place its.bound its.declared, get_or_from_slice_get net.bounds its.place its.bound its.bound its.declared);
+        reduced = its.edge;
+        is = its.is;
+        from = refl;
+        to = refl;
+        at_least = its.at_least;
+      },
       all_allowed net lines all.1,
     )
 
@@ -146,16 +154,17 @@ totals net (line ∷ lines) all = ap (λ (t : ℤ). line.weight +ℤ t) (totals 
 same_point_of : (net : Plan) (one other : List ℕ) (p q : PointId) → one ≡ other → point_named net one ≡ Some p → point_named net other ≡ Some q → p ≡ q
 same_point_of net one other p q same first second = same_Some p q (sym first ∙ ap (point_named net) same ∙ second)
 
-walks : (net : Plan) (begin : List ℕ) (point : PointId) (place : ℕ) (last : StrongLine) (its : IsLineOf net last) (lines : List StrongLine) (all : AllByRecursion (IsLineOf net) lines) → point_named net begin ≡ Some point → returns_to begin place last lines ≡ Ok tt
+walks : (net : Plan) (begin : List ℕ) (point : PointId) (place : ℕ) (last : StrongLine) (its : IsLineOf net last) (lines : List StrongLine) (all : AllByRecursion (IsLineOf net) lines) → point_named net begin ≡ Some point
+    → lines_return_to begin place last lines ≡ Ok tt
     → IsWalk its.edge.to (edges_by net lines all) point
 unfolding edges_by edge_by
 walks net begin point place last its [] all named returns =
     same_point_of net last.to begin its.edge.to point (bytes_eq-same last.to begin (last_ok (bytes_eq last.to begin) (refusal place WalkBroken) returns)) its.to named
 walks net begin point place last its (next ∷ lines) all named returns =
-    let (meets, rest) = unless_ok (bytes_eq next.from last.to) (refusal (place + 1) WalkBroken) (returns_to begin (place + 1) next lines) tt returns in
+    let (meets, rest) = unless_ok (bytes_eq next.from last.to) (refusal (place + 1) WalkBroken) (lines_return_to begin (place + 1) next lines) tt returns in
     (same_point_of net next.from last.to all.0.edge.from its.edge.to (bytes_eq-same next.from last.to meets) all.0.from its.to, walks net begin point (place + 1) next all.0 lines all.1 named rest)
 
-loop_of : (net : Plan) (lines : List StrongLine) (all : AllByRecursion (IsLineOf net) lines) → walk_passes lines ≡ Ok tt → IsNegativeLoop (edges_by net lines all)
+loop_of : (net : Plan) (lines : List StrongLine) (all : AllByRecursion (IsLineOf net) lines) → strong_walk_passes lines ≡ Ok tt → IsNegativeLoop (edges_by net lines all)
 unfolding edges_by edge_by
 loop_of net [] all passes = absurd cc
 loop_of net (line ∷ lines) all passes =
@@ -168,8 +177,9 @@ loop_of net (line ∷ lines) all passes =
     first_ok (Ok done) rest passes = (refl, passes)
     first_ok (Err why) rest passes = absurd cc
 
-    unless_ok' : walk_passes (line ∷ lines) ≡ Ok tt → (returns_to line.from 1 line lines ≡ Ok tt) × (unless (int_lt (total_of (line ∷ lines)) (pos 0)) (refusal (1 + length lines) (WalkNotNegative (total_of (line ∷ lines)))) ≡ Ok tt)
-    unless_ok' passes = first_ok (returns_to line.from 1 line lines) _ passes
+    unless_ok' : strong_walk_passes (line ∷ lines) ≡ Ok tt → (lines_return_to line.from 1 line lines ≡ Ok tt)
+        × (unless (int_lt (total_of (line ∷ lines)) (pos 0)) (refusal (1 + length lines) (WalkNotNegative (total_of (line ∷ lines)))) ≡ Ok tt)
+    unless_ok' passes = first_ok (lines_return_to line.from 1 line lines) _ passes
 
     below_zero : {t : ℤ} → int_lt (total_of (line ∷ lines)) (pos 0) ≡ true → t ≡ total_of (line ∷ lines) → t <ℤ pos 0
     below_zero below same = grind (arith, ints)
@@ -227,11 +237,19 @@ ring_walk net plan place before name (next ∷ others) passes =
     let step = ring_step net plan before name meets in
     let tail = ring_walk net plan (place + 1) name next others rest in
     let joins : tail.from ≡ step.link.to = same_Some tail.from step.link.to (sym tail.begin ∙ step.to) in
-    record { from = step.link.from; to = tail.to; links = step.link ∷ tail.links; begin = step.from; end = tail.end; walk = (step.its, refl, subst (λ (p : PointId). IsLinkWalk net p tail.links tail.to) joins tail.walk); some = λ none. absurd cc }
+    record {
+      from = step.link.from;
+      to = tail.to;
+      links = step.link ∷ tail.links;
+      begin = step.from;
+      end = tail.end;
+      walk = (step.its, refl, subst (λ (p : PointId). IsLinkWalk net p tail.links tail.to) joins tail.walk);
+      some = λ none. absurd cc;
+    }
 
 -- ---- the certificate
-pub accepted_excludes : AcceptedExcludes
-accepted_excludes net cert plan accepted strongly = by cert.ring (cert_passes net cert.by cert.ring) refl accepted
+pub law_accepted_excludes : AcceptedExcludes
+law_accepted_excludes net cert plan accepted strongly = by cert.ring (cert_passes net cert.by cert.ring) refl accepted
   where
     first_ok : (own rest : AllPass) → (own >>= (λ _. rest)) ≡ Ok tt → (own ≡ Ok tt) × (rest ≡ Ok tt)
     first_ok (Ok done) rest passes = (refl, passes)
@@ -239,15 +257,15 @@ accepted_excludes net cert plan accepted strongly = by cert.ring (cert_passes ne
 
     which : (ring : List (List ℕ)) → cert_passes net cert.by ring ≡ Ok tt → ⊥
     which [] passes =
-        let (each, walk) = first_ok (lines_pass net 1 cert.by) (walk_passes cert.by) passes in
+        let (each, walk) = first_ok (bound_lines_pass net 1 cert.by) (strong_walk_passes cert.by) passes in
         let all = lines_of net plan 1 cert.by each in
-        loops_exclude_strong net (edges_by net cert.by all) plan (all_allowed net cert.by all) (loop_of net cert.by all walk) strongly
+        law_loops_exclude_strong net (edges_by net cert.by all) plan (all_allowed net cert.by all) (loop_of net cert.by all walk) strongly
     which (name ∷ names) passes =
         let (each, round) = first_ok (points_pass net 1 (name ∷ names)) (follows net 1 (last_name name names) (name ∷ names)) passes in
         let its = ring_walk net plan 1 (last_name name names) name names round in
         let meets : its.from ≡ its.to = same_Some its.from its.to (sym its.begin ∙ its.end) in
-        rings_exclude_strong net its.links plan (its.to, subst (λ (p : PointId). IsLinkWalk net p its.links its.to) meets its.walk, its.some) strongly
+        law_rings_exclude_strong net its.links plan (its.to, subst (λ (p : PointId). IsLinkWalk net p its.links its.to) meets its.walk, its.some) strongly
 
-    by : (ring : List (List ℕ)) (passes : AllPass) → cert_passes net cert.by ring ≡ passes → judged passes ≡ Accepted → ⊥
+    by : (ring : List (List ℕ)) (passes : AllPass) → cert_passes net cert.by ring ≡ passes → strong_judged passes ≡ Accepted → ⊥
     by ring (Ok done) is accepted = which ring is
     by ring (Err refused) is accepted = absurd cc

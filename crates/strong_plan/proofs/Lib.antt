@@ -1,8 +1,8 @@
 pub mod ChainLemmas
 pub mod SumLemmas
 pub mod StrongLemmas
-pub mod ReducingLemmas
-pub mod WayLemmas
+pub mod ReducedEdgeLemmas
+pub mod RootPathLemmas
 pub mod ClimbLemmas
 pub mod ExcludeLemmas
 pub mod JudgeLemmas

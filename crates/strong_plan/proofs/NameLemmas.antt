@@ -15,7 +15,7 @@ use Rattle.net_model.specs.declared.ids.BoundId.{BoundId}
 use Rattle.net_model.specs.declared.part.Bound.{Bound}
 use Rattle.net_model.proofs.Positions.{position_first}
 use Rattle.cert_checker.specs.Lines.{bound_of, names_point}
-use Rattle.cert_checker.proofs.Naming.{same_bytes, bytes_same}
+use Rattle.cert_checker.proofs.CertificateNames.{same_bytes, bytes_same}
 
 differ : (x y : List ℕ) → (x ≡ y → ⊥) → bytes_eq x y ≡ false
 differ x y apart = false_from_ne_true (bytes_eq x y) (λ same. apart (same_bytes x y same))
@@ -43,8 +43,10 @@ module _ (net : Plan) (plan : IsPlan net) where
       let named : slice_get names place ≡ Some bound.name = slice_get-map (λ (b : Bound). b.name) net.bounds place ∙ ap (option_map (λ (b : Bound). b.name)) here in
       let own : get_or names place [] ≡ bound.name = get_or_from_slice_get names place bound.name [] named in
       let within : place < length names = slice_get_within names place bound.name named in
-      let fails : (j : ℕ) → j < place → bytes_eq bound.name (get_or net.bounds j bound).name ≡ false = λ j below. differ bound.name (get_or net.bounds j bound).name (λ same. apart j place [] below within (other_name j bound (omega (arith, below, inside)) ∙ sym same ∙ sym own)) in
-      ap (option_map (λ (k : ℕ). record { 0 = k })) (position_first (λ (b : Bound). bytes_eq bound.name b.name) net.bounds place bound inside (bytes_same bound.name (get_or net.bounds place bound).name (ap (λ (b : Bound). b.name) (sym at))) fails)
+      let fails : (j : ℕ) → j < place → bytes_eq bound.name (get_or net.bounds j bound).name ≡ false = λ j below. differ bound.name (get_or net.bounds j bound).name
+      (λ same. apart j place [] below within (other_name j bound (omega (arith, below, inside)) ∙ sym same ∙ sym own)) in
+      ap (option_map (λ (k : ℕ). record { 0 = k })) (position_first (λ (b : Bound). bytes_eq bound.name b.name) net.bounds place bound inside
+      (bytes_same bound.name (get_or net.bounds place bound).name (ap (λ (b : Bound). b.name) (sym at))) fails)
     where
       other_name : (j : ℕ) (d : Bound) → j < length net.bounds → get_or (map (λ (b : Bound). b.name) net.bounds) j [] ≡ (get_or net.bounds j d).name
       other_name j d below =

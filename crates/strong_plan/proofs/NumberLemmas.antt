@@ -16,8 +16,8 @@ use Rattle.strong_plan.specs.Numbers.{HasShownNumbers, PlanNumbersAreShown, Show
 small : (n : ℤ) → within_limit n ≡ true → unsigned_abs n ≤ 1000000000
 small n fits = leb-true (unsigned_abs n) 1000000000 fits
 
-pub plan_numbers_are_shown : PlanNumbersAreShown
-plan_numbers_are_shown net numbers = record {
+pub law_plan_numbers_are_shown : PlanNumbersAreShown
+law_plan_numbers_are_shown net numbers = record {
   bounds = λ k b inside. let fits = small (get_or net.bounds k b).most (numbers.bounds k b inside) in omega (arith, fits);
   links = λ k l inside. let fits = small (get_or net.links k l).high (numbers.links k l inside) in omega (arith, fits);
 }
@@ -28,8 +28,8 @@ both_fit n a b least more within = grind (arith, ints)
 one_fits : (n : ℤ) (a : ℕ) → a ≤ 1000000 → unsigned_abs n ≤ 1000000000 → unsigned_abs (n +ℤ pos a) ≤ most_shown
 one_fits n a least within = grind (arith, ints)
 
-pub shown_forms_have_shown_numbers : ShownFormsHaveShownNumbers
-shown_forms_have_shown_numbers net plan numbers = record {
+pub law_shown_forms_have_shown_numbers : ShownFormsHaveShownNumbers
+law_shown_forms_have_shown_numbers net plan numbers = record {
   bounds = All-map (λ (b : Bound). unsigned_abs b.most ≤ most_shown) (shown_bound net) net.bounds (λ k b inside. bound_fits (get_or net.bounds k b) (numbers.bounds k b inside));
   links = All-map (λ (l : Link). unsigned_abs l.high ≤ most_shown) (shown_link net) net.links (λ k l inside. link_fits (get_or net.links k l) (numbers.links k l inside));
 }

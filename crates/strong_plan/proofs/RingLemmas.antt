@@ -16,11 +16,11 @@ use Rattle.strategy_model.proofs.PlayLemmas.{link_sound}
 use Rattle.cert_format.specs.JudgementForms.{◌>>=◌, unless}
 use Rattle.cert_checker.specs.Lines.{link_named, names_point}
 use Rattle.cert_checker.specs.declared.judgement.CertFault.TheVariants.{UnknownItem, WalkBroken}
-use Rattle.least_moments.specs.Rounds.{edge_at}
-use Rattle.strong_plan.specs.Reducing.{link_into}
+use Rattle.earliest_times.specs.Rounds.{edge_at_place}
+use Rattle.strong_plan.specs.ReducedEdges.{link_into}
 use Rattle.strong_plan.specs.Judgement.{AllPass, refusal, points_pass, begins_in, follows, last_name, cert_passes}
 use Rattle.strong_plan.specs.Answers.{down_edge, names_at}
-use Rattle.strong_plan.proofs.ReducingLemmas.{into_link}
+use Rattle.strong_plan.proofs.ReducedEdgeLemmas.{into_link}
 use Rattle.strong_plan.proofs.NameLemmas.{named_point, has_name}
 
 -- a link leads from a point to a point
@@ -31,16 +31,16 @@ abbrev AreLinked : Plan → List Edge → Type 0
 AreLinked net edges = AllByRecursion (λ (edge : Edge). IsLinked net edge.from edge.to) edges
 
 -- the edge of a link at a place
-linked_at : (net : Plan) (place : ℕ) → place < length (map down_edge net.links) → IsLinked net (edge_at (map down_edge net.links) place).from (edge_at (map down_edge net.links) place).to
+linked_at : (net : Plan) (place : ℕ) → place < length (map down_edge net.links) → IsLinked net (edge_at_place (map down_edge net.links) place).from (edge_at_place (map down_edge net.links) place).to
 linked_at net place inside =
     let size = length-map net.links down_edge in
     let blank : Link = record { from = record { 0 = 0 }; low = pos 0; high = pos 0; to = record { 0 = 0 } } in
     let within : place < length net.links = omega (arith, size, inside) in
     let link = get_or net.links place blank in
-    let here : edge_at (map down_edge net.links) place ≡ down_edge link = get_or-map down_edge net.links place blank _ within in
+    let here : edge_at_place (map down_edge net.links) place ≡ down_edge link = get_or-map down_edge net.links place blank _ within in
     (record { 0 = place }, link, slice_get-get_or net.links place blank within, ap (λ (e : Edge). e.from) (sym here), ap (λ (e : Edge). e.to) (sym here))
 
-pub all_linked : (net : Plan) (places : List ℕ) → All (λ place. place < length (map down_edge net.links)) places → AreLinked net (map (edge_at (map down_edge net.links)) places)
+pub all_linked : (net : Plan) (places : List ℕ) → All (λ place. place < length (map down_edge net.links)) places → AreLinked net (map (edge_at_place (map down_edge net.links)) places)
 all_linked net [] within = tt
 all_linked net (place ∷ places) within =
     (linked_at net place (within 0 place (omega arith)), all_linked net places (λ k d inside. within (suc k) d (omega (arith, inside))))
@@ -98,9 +98,10 @@ module _ (net : Plan) (plan : IsPlan net) where
   ring_passes (edge ∷ edges) point some walk all =
       let before = last edge edges point point walk all in
       let points = points_along (edge ∷ edges) 1 point point before.point before.linked walk all in
-      let round : follows net 1 (last_name (name_of edge.from) (names_along edges)) (names_along (edge ∷ edges)) ≡ Ok tt = ap (λ (n : List ℕ). follows net 1 n (names_along (edge ∷ edges))) before.named ∙ follows_along (edge ∷ edges) 1 point point before.point before.linked walk all in
+      let round : follows net 1 (last_name (name_of edge.from) (names_along edges)) (names_along (edge ∷ edges)) ≡ Ok tt = ap (λ (n : List ℕ). follows net 1 n (names_along (edge ∷ edges))) before.named
+      ∙ follows_along (edge ∷ edges) 1 point point before.point before.linked walk all in
       ap (λ (r : AllPass). r >>= (λ _. follows net 1 (last_name (name_of edge.from) (names_along edges)) (names_along (edge ∷ edges)))) points ∙ round
 
-  pub names_same : (edges : List Edge) (places : List ℕ) → names_along (map (edge_at edges) places) ≡ names_at net edges places
+  pub names_same : (edges : List Edge) (places : List ℕ) → names_along (map (edge_at_place edges) places) ≡ names_at net edges places
   names_same edges [] = refl
-  names_same edges (place ∷ places) = ap (λ (ns : List (List ℕ)). name_of (edge_at edges place).from ∷ ns) (names_same edges places)
+  names_same edges (place ∷ places) = ap (λ (ns : List (List ℕ)). name_of (edge_at_place edges place).from ∷ ns) (names_same edges places)

@@ -17,7 +17,7 @@ use Rattle.strong_plan.specs.Chains.{same_end, apart, sum_of, IsReduced}
 use Rattle.strong_plan.specs.Numbers.{HasShownNumbers, most_shown}
 use Rattle.strong_plan.proofs.StrongLemmas.{IsNetLink, chain_links}
 use Rattle.strong_plan.proofs.SumLemmas.{kept_all, test_fails}
-use Rattle.strong_plan.proofs.ReducingLemmas.{ends_of, each_other, distinct}
+use Rattle.strong_plan.proofs.ReducedEdgeLemmas.{ends_of, each_other, distinct}
 
 -- a number is none of these
 abbrev IsOther : ℕ → List ℕ → Type 0
@@ -108,7 +108,8 @@ few_apart net plan bound edge reduced =
     let theirs = kept_all (IsNetLink net) (not_in c) d (chain_links net bound.to d edge.to reduced.to) in
     let own = first_of (IsNetLink net) (λ link. not_in d link ≡ true) (apart c d) ours in
     let their = first_of (IsNetLink net) (λ link. not_in c link ≡ true) (apart d c) theirs in
-    let differ = distinct_both (apart c d) (apart d c) (distinct_kept (not_in d) c (distinct net plan bound.from c edge.from reduced.from)) (distinct_kept (not_in c) d (distinct net plan bound.to d edge.to reduced.to)) (others (apart c d) d (not_in c) ours) in
+    let differ = distinct_both (apart c d) (apart d c) (distinct_kept (not_in d) c (distinct net plan bound.from c edge.from reduced.from)) (distinct_kept (not_in c) d (distinct net plan bound.to d edge.to reduced.to))
+    (others (apart c d) d (not_in c) ours) in
     let least = few net (apart c d ++ apart d c) (both_all (IsNetLink net) (apart c d) (apart d c) own their) differ in
     let count = length-append (apart c d) (apart d c) in
     omega (arith, least, count)
@@ -153,8 +154,10 @@ module _ (net : Plan) (plan : IsPlan net) (numbers : HasShownNumbers net) where
   reduced_size bound edge declared reduced =
       let c = reduced.from_chain in
       let d = reduced.to_chain in
-      let (low_least, low_most) = sum_small net (λ link. not (list_any (same_end link) d) ≡ true) (λ link. link.low) low_fits (apart c d) (kept_all (IsNetLink net) (λ link. not (list_any (same_end link) d)) c (chain_links net bound.from c edge.from reduced.from)) in
-      let (high_least, high_most) = sum_small net (λ link. not (list_any (same_end link) c) ≡ true) (λ link. link.high) high_fits (apart d c) (kept_all (IsNetLink net) (λ link. not (list_any (same_end link) c)) d (chain_links net bound.to d edge.to reduced.to)) in
+      let (low_least, low_most) = sum_small net (λ link. not (list_any (same_end link) d) ≡ true) (λ link. link.low) low_fits (apart c d)
+      (kept_all (IsNetLink net) (λ link. not (list_any (same_end link) d)) c (chain_links net bound.from c edge.from reduced.from)) in
+      let (high_least, high_most) = sum_small net (λ link. not (list_any (same_end link) c) ≡ true) (λ link. link.high) high_fits (apart d c)
+      (kept_all (IsNetLink net) (λ link. not (list_any (same_end link) c)) d (chain_links net bound.to d edge.to reduced.to)) in
       let own = few_apart net plan bound edge reduced in
       let links = plan.few_links in
       let most = All-contains (λ (b : Bound). unsigned_abs b.most ≤ most_shown) net.bounds bound numbers.bounds declared in

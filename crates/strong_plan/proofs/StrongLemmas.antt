@@ -1,5 +1,6 @@
 -- Strong schedules and reduced edges.
-use Rattle.std.proofs.Common.{◌≡◌, ◌≢◌, ◌⊎◌, ℕ, zero, suc, ◌+◌, ◌<◌, ◌≤◌, ℤ, pos, ◌+ℤ◌, ◌≤ℤ◌, Bool, true, false, cond, not, List, [], ◌∷◌, Option, Some, None, map, length, get_or, slice_get, nat_abs, is_none, is_some, refl, ap, sym, subst, ◌∙◌, inl, inr, arith}
+use Rattle.std.proofs.Common.{◌≡◌, ◌≢◌, ◌⊎◌, ℕ, zero, suc, ◌+◌, ◌<◌, ◌≤◌, ℤ, pos, ◌+ℤ◌, ◌≤ℤ◌, Bool, true, false, cond, not, List, [], ◌∷◌, Option, Some, None, map, length, get_or, slice_get, nat_abs, is_none, is_some, refl, ap, sym, subst}
+use Rattle.std.proofs.Common.{◌∙◌, inl, inr, arith}
 use Rattle.std.specs.List.{list_any, filter, AllByRecursion, AllZip, Contains, position_or_len, slice_index}
 use Rattle.std.specs.Option.{option_map}
 use Rattle.std.specs.Prelude.{◌==◌}
@@ -99,19 +100,22 @@ worst_takes : (net : Plan) (plan : IsPlan net) (chain : List Link) (times schedu
 unfolding worst_of
 worst_takes net plan chain times schedule right name link declared =
     let own = (worst_sound net chain link (link_sound net plan name.0 link declared)).0 in
-    let duration : slice_get (worst_of chain net.links) name.0 ≡ Some (nat_abs (worst chain link)) = slice_get-map (λ (l : Link). nat_abs (worst chain l)) net.links name.0 ∙ ap (option_map (λ (l : Link). nat_abs (worst chain l))) declared in
+    let duration : slice_get (worst_of chain net.links) name.0 ≡ Some (nat_abs (worst chain link)) = slice_get-map (λ (l : Link). nat_abs (worst chain l)) net.links name.0
+    ∙ ap (option_map (λ (l : Link). nat_abs (worst chain l))) declared in
     let lasts = right.lasts name link (nat_abs (worst chain link)) declared duration in
     omega (arith, ints, lasts, own)
 
 -- in it the links of the one chain alone are shortest, those of the other alone longest
 worst_apart_in : (chain other : List Link) → sum_of (worst chain) (apart chain other) ≡ sum_of (λ link. link.low) (apart chain other)
 worst_apart_in chain other =
-    sum_same (worst chain) (λ link. link.low) (apart chain other) (each_also (λ l. (list_any (same_end l) chain ≡ true) × (not (list_any (same_end l) other) ≡ true)) (λ l. worst chain l ≡ l.low) (λ l both. worst_in chain l both.0) (apart chain other)
+    sum_same (worst chain) (λ link. link.low) (apart chain other) (each_also (λ l. (list_any (same_end l) chain ≡ true) × (not (list_any (same_end l) other) ≡ true)) (λ l. worst chain l ≡ l.low) (λ l both. worst_in chain l both.0)
+    (apart chain other)
     (kept_all (λ l. list_any (same_end l) chain ≡ true) (λ l. not (list_any (same_end l) other)) chain (each_among chain)))
 
 worst_apart_out : (chain other : List Link) → sum_of (worst chain) (apart other chain) ≡ sum_of (λ link. link.high) (apart other chain)
 worst_apart_out chain other =
-    sum_same (worst chain) (λ link. link.high) (apart other chain) (each_also (λ l. (list_any (same_end l) other ≡ true) × (not (list_any (same_end l) chain) ≡ true)) (λ l. worst chain l ≡ l.high) (λ l both. worst_out chain l (test_fails (list_any (same_end l) chain) both.1)) (apart other chain)
+    sum_same (worst chain) (λ link. link.high) (apart other chain) (each_also (λ l. (list_any (same_end l) other ≡ true) × (not (list_any (same_end l) chain) ≡ true)) (λ l. worst chain l ≡ l.high)
+    (λ l both. worst_out chain l (test_fails (list_any (same_end l) chain) both.1)) (apart other chain)
     (kept_all (λ l. list_any (same_end l) other ≡ true) (λ l. not (list_any (same_end l) chain)) other (each_among other)))
 
 -- a bound that is kept there holds between the roots
@@ -151,7 +155,7 @@ of_each_point net P all point within =
     let size = points_length net in
     subst P here (All-from_recursion P (points_of net) all point.0 point (omega (arith, size, within)))
 
--- two functions agree on a list where they agree on each that passes, and only there
+-- two functions agree on a list if they agree on each that passes, and only then
 map_agree : (f g : PointId → ℕ) (test : PointId → Bool) (points : List PointId) → AllByRecursion (λ p. test p ≡ true → f p ≡ g p) points → map f (filter test points) ≡ map g (filter test points)
 map_agree f g test [] all = refl
 map_agree f g test (point ∷ points) all = by (test point) refl (map_agree f g test points all.1)
@@ -193,7 +197,7 @@ pub root_executable : (net : Plan) (point : PointId) (chain : List Link) (root :
 root_executable net _ _ _ (ends point executable) = executable
 root_executable net _ _ _ (goes_on name link chain point root declared to rest) = root_executable net link.from chain root rest
 
--- ---- where a schedule has moments for the links, every point has a root
+-- ---- if a schedule has moments for the links, every point has a root
 abbrev pub Rooted : Plan → PointId → Type 0
 Rooted net point = (chain : List Link) × (root : PointId) × IsChain net point chain root
 
@@ -230,8 +234,8 @@ reduced_kept net times schedule plan strong has bound edge declared reduced =
     let to = same_moment net schedule its edge.to same (root_executable net bound.to reduced.to_chain edge.to reduced.to) in
     omega (arith, ints, holds, from, to)
 
-pub reduced_edges_hold : ReducedEdgesHold
-reduced_edges_hold net times plan strong =
+pub law_reduced_edges_hold : ReducedEdgesHold
+law_reduced_edges_hold net times plan strong =
     (roots_of net times plan strong, λ schedule has. reduced_kept net times schedule plan strong has)
 
 -- ---- the schedule of a situation, made of the moments of the roots and of the durations along the chains
@@ -342,13 +346,17 @@ module _ (net : Plan) (plan : IsPlan net) (roots : HasRoots net) (moments situat
         let holds = keeps bound edge declared (record { from_chain = c; to_chain = d; from = from; to = to; ordinary = refl; weight = refl }) in
         let begins = moment_is bound.from c r sound.from_point from in
         let arrives = moment_is bound.to d s sound.to_point to in
-        let begun = total_is net situation c in
+        let first_total = total_is net situation c in
         let arrived = total_is net situation d in
         let both = shared f c d (chains_meet net plan bound.from bound.to c d r s from to) in
         let fits = lasting_fits net plan situation is_situation in
-        let longest : sum_of f (apart d c) ≤ℤ sum_of (λ link. link.high) (apart d c) = sum_most f (λ link. link.high) (apart d c) (each_also (λ l. IsNetLink net l × (not (list_any (same_end l) c) ≡ true)) (λ l. f l ≤ℤ l.high) (λ l its. (fits l its.0).1) (apart d c) (kept_all (IsNetLink net) (λ l. not (list_any (same_end l) c)) d (chain_links net bound.to d s to))) in
-        let shortest : sum_of (λ link. link.low) (apart c d) ≤ℤ sum_of f (apart c d) = sum_most (λ link. link.low) f (apart c d) (each_also (λ l. IsNetLink net l × (not (list_any (same_end l) d) ≡ true)) (λ l. l.low ≤ℤ f l) (λ l its. (fits l its.0).0) (apart c d) (kept_all (IsNetLink net) (λ l. not (list_any (same_end l) d)) c (chain_links net bound.from c r from))) in
-        omega (arith, ints, holds, begins, arrives, begun, arrived, both, longest, shortest)
+        let longest : sum_of f (apart d c) ≤ℤ sum_of (λ link. link.high) (apart d c) = sum_most f (λ link. link.high) (apart d c)
+        (each_also (λ l. IsNetLink net l × (not (list_any (same_end l) c) ≡ true)) (λ l. f l ≤ℤ l.high) (λ l its. (fits l its.0).1) (apart d c)
+        (kept_all (IsNetLink net) (λ l. not (list_any (same_end l) c)) d (chain_links net bound.to d s to))) in
+        let shortest : sum_of (λ link. link.low) (apart c d) ≤ℤ sum_of f (apart c d) = sum_most (λ link. link.low) f (apart c d)
+        (each_also (λ l. IsNetLink net l × (not (list_any (same_end l) d) ≡ true)) (λ l. l.low ≤ℤ f l) (λ l its. (fits l its.0).0) (apart c d)
+        (kept_all (IsNetLink net) (λ l. not (list_any (same_end l) d)) c (chain_links net bound.from c r from))) in
+        omega (arith, ints, holds, begins, arrives, first_total, arrived, both, longest, shortest)
 
     pub schedule_satisfies : Satisfies net schedule
     schedule_satisfies =
@@ -360,8 +368,8 @@ module _ (net : Plan) (plan : IsPlan net) (roots : HasRoots net) (moments situat
     pub schedule_right : IsRightIn net (executed_in net moments) situation schedule
     schedule_right = record { has = schedule_has; lasts = schedule_lasts; satisfies = schedule_satisfies }
 
-pub reduced_edges_suffice : ReducedEdgesSuffice
-reduced_edges_suffice net moments plan roots keeps =
+pub law_reduced_edges_suffice : ReducedEdgesSuffice
+law_reduced_edges_suffice net moments plan roots keeps =
     record { right = λ situation is_situation. (schedule net plan roots moments situation, schedule_right net plan roots moments situation is_situation keeps) }
 
 -- ---- a strong schedule is played by a strategy

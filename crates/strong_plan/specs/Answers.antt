@@ -11,17 +11,17 @@ use Rattle.net_model.specs.declared.part.Link.{Link}
 use Rattle.cert_format.specs.StrongWords.{OfOneKind, HasStrongWeights}
 use Rattle.cert_format.specs.declared.strong_cert.StrongCert.{StrongCert}
 use Rattle.cert_format.specs.declared.strong_cert.StrongLine.{StrongLine}
-use Rattle.least_moments.specs.Rounds.{edge_at}
+use Rattle.earliest_times.specs.Rounds.{edge_at_place}
 use Rattle.strong_plan.specs.Strong.{IsLeastStrongSchedule, IsStronglyControllable}
 use Rattle.strong_plan.specs.Chains.{IsRing}
-use Rattle.strong_plan.specs.Reducing.{reduced_edge}
+use Rattle.strong_plan.specs.ReducedEdges.{reduced_edge}
 use Rattle.strong_plan.specs.Judgement.{judgement_of}
 use Rattle.strong_plan.specs.declared.judgement.StrongJudgement.TheVariants.{Accepted}
 use Rattle.strong_plan.specs.declared.answer.Strong.{Strong}
 use Rattle.strong_plan.specs.declared.answer.Strong.TheVariants.{Times, Refuted}
 
--- The edge of a link by which its activation point stands higher than its contingent point. The least moments that keep these edges are
--- heights: how many links at most lead on from a point. Links have a ring exactly where there are none.
+-- The edge of a link by which its activation point stands higher than its contingent point. The least moments that keep these edges are heights: how many links
+-- at most lead on from a point. Links have a ring exactly if there are none.
 abbrev pub down_edge : Link → Edge
 down_edge link = record { from = link.from; to = link.to; label = None; weight = negsuc 0 }
 
@@ -35,7 +35,7 @@ HasNoRing net = (links : List Link) → IsRing net links → ⊥
 
 -- the points in which the edges at these places begin
 abbrev pub points_at : List Edge → List ℕ → List PointId
-points_at edges places = map (λ place. (edge_at edges place).from) places
+points_at edges places = map (λ place. (edge_at_place edges place).from) places
 
 -- their names
 abbrev pub names_at : Plan → List Edge → List ℕ → List (List ℕ)
@@ -52,29 +52,29 @@ reduced_line net place edge = record {
 
 -- the lines for the bounds at these places
 abbrev pub lines_at : Plan → List Edge → List ℕ → List StrongLine
-lines_at net edges places = map (λ place. reduced_line net place (edge_at edges place)) places
+lines_at net edges places = map (λ place. reduced_line net place (edge_at_place edges place)) places
 
--- the names of the points of the walk that a certificate tells, line by line
-abbrev pub names_of : StrongCert → List (List ℕ)
-names_of cert = map (λ (line : StrongLine). line.from) cert.by ++ cert.ring
+-- the names of the points of the walk that a certificate states, line by line
+abbrev pub names_of_certificate : StrongCert → List (List ℕ)
+names_of_certificate cert = map (λ (line : StrongLine). line.from) cert.by ++ cert.ring
 
 -- points of a walk, none of which comes twice, from the one of least number on
 pub record IsFromLowest (points : List PointId) : Type 0 where
   pub once : AllPairs (λ one other. one.0 ≢ other.0) points
   pub lowest : (k : ℕ) → k < length points → (slice_index_or points 0 (record { 0 = 0 })).0 ≤ (slice_index_or points k (record { 0 = 0 })).0
 
--- A refutation: a certificate that is accepted, of a ring where the links have one; no point comes twice in it, and it begins at its lowest.
-pub record IsRefutation (net : Plan) (cert : StrongCert) : Type 0 where
+-- A refutation: a certificate that is accepted, of a ring if the links have one; no point comes twice in it, and it begins at its lowest.
+pub record IsStrongRefutation (net : Plan) (cert : StrongCert) : Type 0 where
   pub accepted : judgement_of net cert ≡ Accepted
   pub excludes : IsStronglyControllable net → ⊥
   pub rings_first : (links : List Link) → IsRing net links → cert.ring ≢ []
   pub points : List PointId
-  pub named : names_of cert ≡ map (point_name net.points) points
+  pub named : names_of_certificate cert ≡ map (point_name net.points) points
   pub from_lowest : IsFromLowest points
   pub of_one_kind : OfOneKind cert
   pub weights : HasStrongWeights cert
 
 -- what is answered of a network
-abbrev pub IsAnswer : Plan → Strong → Type 0
-IsAnswer net (Times times) = IsLeastStrongSchedule net times
-IsAnswer net (Refuted cert) = IsRefutation net cert
+abbrev pub IsStrongAnswer : Plan → Strong → Type 0
+IsStrongAnswer net (Times times) = IsLeastStrongSchedule net times
+IsStrongAnswer net (Refuted cert) = IsStrongRefutation net cert

@@ -23,12 +23,12 @@ HasRoots net = (point : PointId) → IsPoint net point → (chain : List Link) �
 abbrev pub KeepsReduced : Plan → List ℕ → Type 0
 KeepsReduced net schedule = (bound : Bound) (edge : Edge) → Contains net.bounds bound → IsReduced net bound edge → HoldsIn schedule edge
 
--- moments of the executable points are a strong schedule where every point has a root and they keep the reduced edges
+-- moments of the executable points are a strong schedule if every point has a root and they keep the reduced edges
 abbrev pub ReducedEdgesSuffice : Type 0
 ReducedEdgesSuffice =
     (net : Plan) (schedule : List ℕ) → IsPlan net → HasRoots net → KeepsReduced net schedule → IsStrongSchedule net (executed_in net schedule)
 
--- and only there
+-- and only then
 abbrev pub ReducedEdgesHold : Type 0
 ReducedEdgesHold =
     (net : Plan) (times : List ℕ) → IsPlan net → IsStrongSchedule net times
@@ -40,7 +40,8 @@ StrongIsControllable = (net : Plan) → IsPlan net → IsStronglyControllable ne
 
 -- a closed walk of negative total over reduced edges, or edges above them, excludes every strong schedule
 abbrev pub LoopsExcludeStrong : Type 0
-LoopsExcludeStrong = (net : Plan) (edges : List Edge) → IsPlan net → AllByRecursion (IsAllowed net) edges → IsNegativeLoop edges → IsStronglyControllable net → ⊥
+LoopsExcludeStrong = (net : Plan) (edges : List Edge) → IsPlan net → AllByRecursion (IsAllowed net) edges → IsNegativeLoop edges → IsStronglyControllable net
+    → ⊥
 
 -- and so does a ring of links
 abbrev pub RingsExcludeStrong : Type 0

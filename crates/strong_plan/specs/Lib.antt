@@ -1,6 +1,6 @@
 pub mod Strong
 pub mod Chains
-pub mod Reducing
+pub mod ReducedEdges
 pub mod Numbers
 pub mod Judgement
 pub mod Answers

@@ -1,3 +1,5 @@
+//! The answer to the question whether a network has a strong schedule.
+
 use cert_format::StrongCert;
 use net_model::Items;
 

@@ -4,13 +4,14 @@ ghost use Rattle.std.specs.Prelude.{◌≡◌, length, IfSome, Some, suc};
 ghost use Rattle.std.specs.Option.{option_map};
 ghost use Rattle.net_model.specs.Network.{IsPoint, IsBound, IsLink};
 ghost use Rattle.strong_plan.specs.Chains.{reduced_weight};
-ghost use Rattle.strong_plan.specs.Reducing.{link_into, chain_of, links_of, root_of, reduced_edge};
+ghost use Rattle.strong_plan.specs.ReducedEdges.{link_into, chain_of, links_of, root_of};
+ghost use Rattle.strong_plan.specs.ReducedEdges.{reduced_edge};
 
 use net_model::{Bound, Edge, Link, Network, PointId, Weight};
 
 /// How many links lead up from a point to its root, and the root.
 #[derive(Clone, Copy)]
-pub(crate) struct Way {
+pub(crate) struct RootPath {
     pub(crate) links: usize,
     pub(crate) root: PointId,
 }
@@ -25,28 +26,31 @@ pub(crate) fn link_into(net: &Network, point: PointId) -> Option<Link>
     net.links().get(name.0 as usize).copied()
 }
 
-/// The way up from a point, or `None` exactly where the point has no root.
-pub(crate) fn way_up(net: &Network, point: PointId) -> Option<Way>
+/// The path up from a point to its root, or `None` exactly if the point has no root.
+pub(crate) fn root_path(net: &Network, point: PointId) -> Option<RootPath>
     requires { IsPoint net.now point }
-    ensures { result ≡ option_map (λ chain. record { links = length chain; root = root_of point chain }) (chain_of net.now point) }
+    ensures { result ≡ option_map (λ chain. record {
+      links = length chain;
+      root = root_of point chain;
+    }) (chain_of net.now point) }
 {
     let mut at = point;
     for links in 0..net.points().len() + 1 {
         match link_into(net, at) {
-            None => return Some(Way { links, root: at }),
+            None => return Some(RootPath { links, root: at }),
             Some(link) => at = link.from,
         }
     }
     None
 }
 
-/// The reduced edge of a bound of the network, or `None` exactly where one of its points has no root.
+/// The reduced edge of a bound of the network, or `None` exactly if one of its points has no root.
 pub(crate) fn reduced_edge(net: &Network, bound: &Bound) -> Option<Edge>
     requires { IsBound net.now bound.now }
     ensures { result ≡ reduced_edge net.now bound.now }
 {
-    let from = way_up(net, bound.from)?;
-    let to = way_up(net, bound.to)?;
+    let from = root_path(net, bound.from)?;
+    let to = root_path(net, bound.to)?;
     let weight = reduced_weight(net, bound, from.links, to.links);
     Some(Edge {
         from: from.root,
@@ -56,13 +60,14 @@ pub(crate) fn reduced_edge(net: &Network, bound: &Bound) -> Option<Edge>
     })
 }
 
-/// The weight of the reduced edge of a bound whose points have chains of so many links. The links that the chains share are
-/// left out: the longer one is climbed until both stand at one point.
+/// The weight of the reduced edge of a bound whose points have chains of so many links. The links
+/// that the chains share are left out: the longer one is climbed until both stand at one point.
 fn reduced_weight(net: &Network, bound: &Bound, from_links: usize, to_links: usize) -> Weight
     requires sound { IsBound net.now bound.now }
     requires from { option_map length (chain_of net.now bound.now.from) ≡ Some from_links }
     requires to { option_map length (chain_of net.now bound.now.to) ≡ Some to_links }
-    ensures { result ≡ reduced_weight bound.now.most (links_of net.now bound.now.from) (links_of net.now bound.now.to) }
+    ensures { result ≡ reduced_weight bound.now.most (links_of net.now bound.now.from)
+        (links_of net.now bound.now.to) }
 {
     net.sound();
     let mut weight = bound.most;

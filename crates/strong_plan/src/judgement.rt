@@ -1,7 +1,10 @@
+//! What a judgement says of a strong certificate.
+
 use cert_checker::CertFault;
 use std::fmt;
 
-/// What is said of a strong certificate. Lines are counted from 1: those that are not blank, after its header.
+/// What is said of a strong certificate. Lines are counted from 1: those that are not blank, after
+/// its header.
 #[derive(Clone, Copy, Debug, PartialEq, Eq)]
 pub enum StrongJudgement {
     /// No one schedule of the executable points is right in every situation.
@@ -26,18 +29,18 @@ impl fmt::Display for StrongJudgement {
 
 /// The first line that does not pass, and why.
 #[derive(Clone, Copy)]
-pub(crate) struct Refusal {
+pub(crate) struct RefusedStrongLine {
     pub(crate) line: u64,
     pub(crate) why: CertFault,
 }
 
-impl Refusal {
+impl RefusedStrongLine {
     ghost use Rattle.std.specs.Prelude.{◌≡◌};
     ghost use Rattle.strong_plan.specs.Judgement.{refusal};
 
-    pub(crate) fn at(line: u64, why: CertFault) -> Refusal
+    pub(crate) fn at(line: u64, why: CertFault) -> RefusedStrongLine
         ensures { result ≡ refusal line why }
     {
-        Refusal { line, why }
+        RefusedStrongLine { line, why }
     }
 }

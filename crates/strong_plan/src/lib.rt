@@ -1,18 +1,19 @@
-//! Strong controllability: whether one schedule of the executable points is right in every situation.
+//! Strong controllability: whether one schedule of the executable points is right in every
+//! situation.
 #![tactic(auto)]
 
 mod answer;
-mod certifying;
+mod certificate_judge;
+mod certificates;
 mod chain;
 mod judgement;
-mod judging;
 pub mod laws;
+mod least_schedule;
 mod lines;
 mod lookup;
 mod ring;
-mod searching;
 
 pub use answer::Strong;
+pub use certificate_judge::judge_strong;
 pub use judgement::StrongJudgement;
-pub use judging::judge_strong;
-pub use searching::strong;
+pub use least_schedule::strong;

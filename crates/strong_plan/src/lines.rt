@@ -1,31 +1,33 @@
-//! The lines of bounds of a strong certificate: whether they pass, and are a closed walk of negative total.
+//! The lines of bounds of a strong certificate: whether they pass, and are a closed walk of
+//! negative total.
 
 ghost use Rattle.std.specs.Prelude.{◌≡◌, ◌+◌, ◌≤◌, ◌<◌, ◌*◌, ◌∷◌, length, Ok};
-ghost use Rattle.strong_plan.specs.Judgement.{line_passes, lines_pass, returns_to, total_of, walk_passes};
+ghost use Rattle.strong_plan.specs.Judgement.{bound_line_passes, bound_lines_pass, lines_return_to};
+ghost use Rattle.strong_plan.specs.Judgement.{total_of, strong_walk_passes};
 
 use crate::chain::reduced_edge;
-use crate::judgement::Refusal;
+use crate::judgement::RefusedStrongLine;
 use crate::lookup::bound_of;
 use cert_checker::CertFault;
 use cert_format::StrongLine;
 use net_model::{MOST_WEIGHT, Network};
 
 /// Each line passes.
-pub(crate) fn lines_pass(net: &Network, lines: &[StrongLine]) -> Result<(), Refusal>
-    ensures { result ≡ lines_pass net.now 1 lines.now }
+pub(crate) fn bound_lines_pass(net: &Network, lines: &[StrongLine]) -> Result<(), RefusedStrongLine>
+    ensures { result ≡ bound_lines_pass net.now 1 lines.now }
 {
     for (index, line) in lines.iter().enumerate() {
-        if let Err(why) = line_passes(net, line) {
-            return Err(Refusal::at(1 + index as u64, why));
+        if let Err(why) = bound_line_passes(net, line) {
+            return Err(RefusedStrongLine::at(1 + index as u64, why));
         }
     }
     Ok(())
 }
 
 /// Whether a line passes, or why not.
-#[tactic(auto, unfolding(crate::specs::Judgement::line_passes))]
-fn line_passes(net: &Network, line: &StrongLine) -> Result<(), CertFault>
-    ensures { result ≡ line_passes net.now line.now }
+#[tactic(auto, unfolding(crate::specs::Judgement::bound_line_passes))]
+fn bound_line_passes(net: &Network, line: &StrongLine) -> Result<(), CertFault>
+    ensures { result ≡ bound_line_passes net.now line.now }
 {
     if net.point(line.from.bytes()).is_none() || net.point(line.to.bytes()).is_none() {
         return Err(CertFault::UnknownItem);
@@ -54,37 +56,38 @@ fn line_passes(net: &Network, line: &StrongLine) -> Result<(), CertFault>
 }
 
 /// The lines are a closed walk of negative total.
-pub(crate) fn walk_passes(lines: &[StrongLine]) -> Result<(), Refusal>
-    ensures { result ≡ walk_passes lines.now }
+pub(crate) fn strong_walk_passes(lines: &[StrongLine]) -> Result<(), RefusedStrongLine>
+    ensures { result ≡ strong_walk_passes lines.now }
 {
     let Some((first, rest)) = lines.split_first() else {
-        return Err(Refusal::at(1, CertFault::WalkBroken));
+        return Err(RefusedStrongLine::at(1, CertFault::WalkBroken));
     };
-    returns_to(first, rest)?;
+    lines_return_to(first, rest)?;
     let total = total_of(lines);
     if total < 0 {
         return Ok(());
     }
-    Err(Refusal::at(1 + rest.len() as u64, CertFault::WalkNotNegative { total }))
+    Err(RefusedStrongLine::at(1 + rest.len() as u64, CertFault::WalkNotNegative { total }))
 }
 
-/// Each line after the first begins where the one before ends, and the last ends where the first begins.
-fn returns_to(first: &StrongLine, rest: &[StrongLine]) -> Result<(), Refusal>
-    ensures { result ≡ returns_to first.now.from 1 first.now rest.now }
+/// Each line after the first begins where the one before ends, and the last ends where the first
+/// begins.
+fn lines_return_to(first: &StrongLine, rest: &[StrongLine]) -> Result<(), RefusedStrongLine>
+    ensures { result ≡ lines_return_to first.now.from 1 first.now rest.now }
 {
     let mut place = 1;
     let mut last = first;
     for next in rest {
         place += 1;
         if next.from != last.to {
-            return Err(Refusal::at(place, CertFault::WalkBroken));
+            return Err(RefusedStrongLine::at(place, CertFault::WalkBroken));
         }
         last = next;
     }
     if last.to == first.from {
         Ok(())
     } else {
-        Err(Refusal::at(place, CertFault::WalkBroken))
+        Err(RefusedStrongLine::at(place, CertFault::WalkBroken))
     }
 }
 

@@ -10,16 +10,16 @@ use Rattle.closure_model.specs.Keys.{shape_of}
 use Rattle.closure_model.specs.Tables.{Graph, IsFor, no_edges}
 use Rattle.closure_model.specs.declared.derivation.Node.{Node}
 use Rattle.closure_model.specs.declared.derivation.NodeId.{NodeId}
-use Rattle.closure_model.proofs.LawProofs.{derivable_are_edges}
-use Rattle.closure_model.proofs.Made.{node_derivable}
+use Rattle.closure_model.proofs.LawProofs.{law_derivable_are_edges}
+use Rattle.closure_model.proofs.DerivedNodes.{node_derivable}
 use Rattle.closure_model.proofs.Nodes.{at_push}
-use Rattle.closure_model.proofs.Standing.{list_pushed, table_pushed}
+use Rattle.closure_model.proofs.SupportLemmas.{list_pushed, table_pushed}
 use Rattle.closure_model.proofs.TableLemmas.{all_lowered-shape}
-use Rattle.derivation_dag.specs.Supported.{no_support}
-use Rattle.derivation_edits.specs.Following.{Renumbering, Following, none_followed, placed, follow_node, followed, moved_node}
-use Rattle.derivation_edits.proofs.KeptDerived.{first_derived, given_new}
-use Rattle.derivation_edits.proofs.Prefixes.{one_more}
-use Rattle.support_records.specs.Followed.{IsDerivedOn}
+use Rattle.derivation_dag.specs.SupportedTables.{no_support}
+use Rattle.edit_laws.specs.KeptLists.{Renumbering, Following, none_followed, placed, follow_node, followed, moved_node}
+use Rattle.edit_laws.proofs.KeptDerived.{first_derived, given_new}
+use Rattle.edit_laws.proofs.Prefixes.{one_more}
+use Rattle.support_records.specs.FollowedStores.{IsDerivedOn}
 use Rattle.support_records.specs.Moves.{CanFollow}
 
 -- ---- a derivation list with its table, and one node more
@@ -29,7 +29,7 @@ module _ (net : Plan) (support : Support) (on : IsDerivedOn net support) where
 
   pub edge_given : IsPlan net → (node : Node) → IsGiven net support.nodes node → IsEdge net node.edge
   edge_given plan node given =
-      derivable_are_edges net node.edge plan (node_derivable net (support.nodes ++ node ∷ []) (list_pushed net support.nodes node on.derived given) (record { 0 = length support.nodes }) node (at_push support.nodes node))
+      law_derivable_are_edges net node.edge plan (node_derivable net (support.nodes ++ node ∷ []) (list_pushed net support.nodes node on.derived given) (record { 0 = length support.nodes }) node (at_push support.nodes node))
 
   pub derived_more : (node : Node) → IsGiven net support.nodes node → IsDerivedOn net (with_node support node)
   derived_more node given = record { derived = list_pushed net support.nodes node on.derived given; table = table_pushed net support.nodes node support.table on.table }

@@ -1,4 +1,4 @@
--- The numbers by names as they are held.
+-- The numbers by names as they are stored.
 use Rattle.std.proofs.Common.{◌≡◌, ℕ, zero, suc, ◌+◌, ◌<◌, List, [], ◌∷◌, ◌++◌, length, take, map, get_or, Option, None, refl, ap, sym, ◌∙◌}
 use Rattle.std.specs.Prelude.{slice_get}
 use Rattle.std.specs.Option.{option_and_then}
@@ -6,7 +6,7 @@ use Rattle.std.proofs.lemmas.List.{map_more}
 use Rattle.net_model.specs.Network.{Plan}
 use Rattle.net_model.specs.declared.ids.BoundId.{BoundId}
 use Rattle.net_model.specs.declared.ids.LinkId.{LinkId}
-use Rattle.derivation_edits.specs.Taken.{bound_in, link_in, renumbering}
+use Rattle.edit_laws.specs.EditNumbers.{bound_in, link_in, renumbering}
 use Rattle.net_model.specs.declared.edit.Edit.{Edit}
 use Rattle.support_records.specs.Moves.{moves_of, AreMoves}
 use Rattle.support_records.specs.declared.moves.Moves.{Moves}

@@ -1,3 +1,3 @@
-pub mod Newly
+pub mod NewNodes
 pub mod Moves
-pub mod Followed
+pub mod FollowedStores

@@ -1,4 +1,4 @@
--- The numbers that points, bounds and links have in an edited network, as they are held.
+-- The numbers that points, bounds and links have in an edited network, as they are stored.
 use Rattle.std.specs.Prelude.{◌≡◌, List, None}
 use Rattle.std.specs.List.{slice_index_or, All, Contains}
 use Rattle.std.specs.Option.{option_map_or}
@@ -7,11 +7,12 @@ use Rattle.net_model.specs.declared.ids.PointId.{PointId}
 use Rattle.closure_model.specs.Derivations.{IsDerivationList, base_nodes}
 use Rattle.closure_model.specs.declared.derivation.Node.{Node}
 use Rattle.net_model.specs.declared.edit.Edit.{Edit}
-use Rattle.derivation_edits.specs.Following.{Renumbering, IsRenumbering}
-use Rattle.derivation_edits.specs.Taken.{point_in, renumbering}
-use Rattle.support_records.specs.Newly.{new_nodes}
+use Rattle.edit_laws.specs.KeptLists.{Renumbering, IsRenumbering}
+use Rattle.edit_laws.specs.EditNumbers.{point_in, renumbering}
+use Rattle.support_records.specs.NewNodes.{new_nodes}
 use Rattle.support_records.specs.declared.moves.Moves.{Moves}
 
+-- the numbers that are stored
 abbrev pub moves_of : Moves → Renumbering
 moves_of moves = record {
   points = λ point. option_map_or (λ (other : PointId). other) (point_in moves.points.old.now moves.points.new.now point) point;

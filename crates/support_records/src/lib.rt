@@ -1,10 +1,11 @@
-//! A store of derivations that follows the edits of a network: what rests on nothing taken away is kept.
+//! A store of derivations that follows the edits of a network: what rests on nothing taken away is
+//! kept.
 #![tactic(auto)]
 
-mod following;
+mod kept_nodes;
 mod moves;
-mod naming;
-mod newly;
+mod names;
+mod new_base;
 mod points;
 mod store;
 

@@ -1,16 +1,19 @@
+//! The numbers that points, bounds and links of a network have in the edited one.
+
 ghost use Rattle.std.specs.Prelude.{◌≡◌, map, IfOk};
-ghost use Rattle.derivation_edits.specs.Taken.{bound_in, link_in};
-ghost use Rattle.derivation_edits.specs.Following.{place_at, moved_rule, moved_edge, moved_node, moved_label};
+ghost use Rattle.edit_laws.specs.EditNumbers.{bound_in, link_in};
+ghost use Rattle.edit_laws.specs.KeptLists.{place_at, moved_rule, moved_edge, moved_node};
+ghost use Rattle.edit_laws.specs.KeptLists.{moved_label};
 ghost use Rattle.support_records.specs.Moves.{moves_of, AreMoves};
 
-use crate::naming::{bound_in, link_in};
+use crate::names::{bound_in, link_in};
 use crate::points::Points;
 use closure_model::{Node, NodeId, Rule};
 use net_model::{BoundId, Edge, Edit, LinkId, Network, PointId};
 use std::alloc::{AllocError, Global};
 
-/// The numbers that points, bounds and links of a network have in the edited one, by the numbers that they had. A bound or a link that is
-/// taken away has none.
+/// The numbers that points, bounds and links of a network have in the edited one, by the numbers
+/// that they had. A bound or a link that is taken away has none.
 #[derive(Drop)]
 pub(crate) struct Moves<'a> {
     pub(crate) points: Points<'a>,
@@ -101,7 +104,8 @@ impl<'a> Moves<'a> {
         }
     }
 
-    /// A node with its new numbers, where it rests on nothing taken away. `places` are the numbers among the kept nodes of those before it.
+    /// A node with its new numbers, if it rests on nothing taken away. `places` are the numbers
+    /// among the kept nodes of those before it.
     pub(crate) fn node(&self, places: &[Option<NodeId>], node: &Node) -> Option<Node>
         ensures { result ≡ moved_node (moves_of self.now) places.now node.now }
     {
@@ -124,7 +128,8 @@ fn bounds_in(
     points: &Points,
     edit: &Edit,
 ) -> Result<Vec<Option<BoundId>>, AllocError>
-    ensures { IfOk result (λ bounds. bounds.items ≡ map (bound_in points.now.old.now edit.now points.now.new.now) points.now.old.now.bounds) }
+    ensures { IfOk result (λ bounds. bounds.items ≡ map
+        (bound_in points.now.old.now edit.now points.now.new.now) points.now.old.now.bounds) }
 {
     let mut bounds = Vec::new(alloc);
     for bound in points.old.bounds() {
@@ -134,7 +139,8 @@ fn bounds_in(
 }
 
 fn links_in(alloc: Global, points: &Points, edit: &Edit) -> Result<Vec<Option<LinkId>>, AllocError>
-    ensures { IfOk result (λ links. links.items ≡ map (link_in points.now.old.now edit.now points.now.new.now) points.now.old.now.links) }
+    ensures { IfOk result (λ links. links.items ≡ map
+        (link_in points.now.old.now edit.now points.now.new.now) points.now.old.now.links) }
 {
     let mut links = Vec::new(alloc);
     for link in points.old.links() {

@@ -1,12 +1,14 @@
+//! The points of a network and those of the same names in the edited one.
+
 ghost use Rattle.std.specs.Prelude.{◌≡◌, map, IfOk};
 ghost use Rattle.net_model.specs.Network.{point_named};
-ghost use Rattle.derivation_edits.specs.Taken.{point_in};
+ghost use Rattle.edit_laws.specs.EditNumbers.{point_in};
 
 use net_model::{Name, Network, PointId};
 use std::alloc::{AllocError, Global};
 
-/// A network and the edited one, with the point of the edited one that has the name of each point of the other. Each name is looked up
-/// once.
+/// A network and the edited one, with the point of the edited one that has the name of each point
+/// of the other. Each name is looked up once.
 #[derive(Drop)]
 pub(crate) struct Points<'a> {
     pub(crate) old: &'a Network,

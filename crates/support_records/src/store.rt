@@ -1,8 +1,10 @@
+//! A store of derivations that follows edits of the network.
+
 ghost use Rattle.std.specs.Prelude.{◌≡◌, ◌+◌, ◌≤◌, IfOk};
 ghost use Rattle.closure_model.specs.Derivations.{base_support, StandsOn};
-ghost use Rattle.support_records.specs.Followed.{IsFollowed};
+ghost use Rattle.support_records.specs.FollowedStores.{IsFollowed};
 
-use crate::following::follow_into;
+use crate::kept_nodes::follow_into;
 use crate::moves::Moves;
 use closure_model::{Node, NodeId};
 use derivation_dag::{Dag, MadeRow, Plain, Supports};
@@ -19,7 +21,7 @@ pub struct Withdrawn {
 }
 
 impl Withdrawn {
-    /// The answer where so many of the earlier nodes are kept.
+    /// The report if so many of the earlier nodes are kept.
     fn counted(kept: u64, earlier: u64) -> Withdrawn
         requires { kept ≤ earlier }
         ensures kept { result.kept ≡ kept }
@@ -32,8 +34,9 @@ impl Withdrawn {
     }
 }
 
-/// A derivation list with the table of the least edges of its nodes, which follows edits of the network. Older versions of an entry
-/// stay in the list. Contracts see it as the list and the table.
+/// A derivation list with the table of the least edges of its nodes, which follows edits of the
+/// network. Older versions of an entry stay in the list. Contracts see it as the list and the
+/// table. Its calls as `Supports` are those of `Plain`.
 #[derive(Debug, Drop)]
 pub struct Store {
     plain: Plain,
@@ -51,8 +54,8 @@ impl Model for Store {
 }
 
 impl Store {
-    /// The base nodes and the base table of a network, as `Plain::of` makes them. They stand on the network. `AllocError` comes only for
-    /// want of memory.
+    /// The base nodes and the base table of a network, as `Plain::of` makes them. They stand on the
+    /// network. `AllocError` comes only for want of memory.
     pub fn of(alloc: Global, net: &Network) -> Result<Store, AllocError>
         ensures base { IfOk result (λ store. store ≡ base_support net.now) }
         ensures stands { IfOk result (StandsOn net.now) }
@@ -61,11 +64,20 @@ impl Store {
         Ok(Store { plain })
     }
 
-    /// Follows an edit of the network on which the store stands: exactly the nodes that rest on nothing taken away are kept, in their old
-    /// order and with the numbers that they have then; after them come the base nodes of what is new, of bounds and then of links, each in
-    /// order. The store stands on the new network then. A bound or a link is taken away where the edit sets it, and where the new network
-    /// has none of its name, or has it with another number or between other points; a link is named by the point in which it ends.
-    /// `AllocError` comes only for want of memory; then the store is lost, and the caller drops it.
+    /// Follows an edit of the network on which the store stands: exactly the nodes that rest on
+    /// nothing taken away are kept, in their old order and with the numbers that they have then;
+    /// after them come the base nodes of what is new, of bounds and then of links, each in order.
+    /// The store stands on the new network then. A bound or a link is taken away if the edit sets
+    /// it, or if the new network has none of its name, or has it with another number or between
+    /// other points; a link is named by the point in which it ends. Nothing is required of the edit
+    /// and of the two networks. The table is that of the list: each key has the least weight of its
+    /// nodes, and `newest` gives the first node that has it. The answer counts the earlier nodes,
+    /// those that were kept and those that were not. `AllocError` comes only for want of memory;
+    /// then the store is lost, and the caller drops it.
+    ///
+    /// Only read in the code, and in no clause: it goes over the earlier list once, and looks up
+    /// the name of each point and each bound of the old network, and of each bound and each link of
+    /// the new one, once.
     pub fn follow(
         &mut self,
         alloc: Global,

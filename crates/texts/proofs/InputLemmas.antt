@@ -1,11 +1,11 @@
--- Lines of an input: how they go on with bytes that come, and what the first of them is.
+-- Lines of an input: how more bytes continue them, and what the first of them is.
 use Rattle.std.proofs.Common.{◌≡◌, ℕ, ◌+◌, ◌<◌, ◌≤◌, ◌==◌, Bool, true, false, cond, List, [], ◌∷◌, ◌++◌, length, map, refl, sym, ap, ◌∙◌, arith, append_assoc}
 use Rattle.std.proofs.lemmas.List.{append-nil, length-append}
 use Rattle.std.proofs.lemmas.Bool.{eqb-true, cond-false}
 use Rattle.texts.specs.Words.{if_filled}
 use Rattle.texts.specs.Lines.{lines_after, lines, whole_lines_after, whole_lines, unfinished_after, unfinished, InputLine, whole_line, open_line, last_line, input_lines}
 
--- the lines of an input, of which `line` is the beginning of one
+-- the lines of an input, of which `line` is the start of one
 abbrev pub input_lines_after : List ℕ → List ℕ → List InputLine
 input_lines_after line bytes = map whole_line (whole_lines_after line bytes) ++ last_line (unfinished_after line bytes)
 
@@ -25,7 +25,7 @@ pub input_lines_is : (bytes : List ℕ) → input_lines bytes ≡ input_lines_af
 unfolding input_lines whole_lines unfinished
 input_lines_is bytes = refl
 
--- the whole lines, and what is unfinished, where a byte ends the line or goes on with it to a longer one
+-- the whole lines, and what is unfinished, whether a byte ends the line or makes it longer
 abbrev whole_past : Bool → List ℕ → List ℕ → List ℕ → List (List ℕ)
 whole_past ends line bytes longer = cond ends (line ∷ whole_lines_after [] bytes) (whole_lines_after longer bytes)
 
@@ -54,7 +54,7 @@ pub lines-texts : (bytes : List ℕ) → lines bytes ≡ map (λ line. line.text
 unfolding lines input_lines whole_lines unfinished
 lines-texts bytes = lines_after-texts [] bytes
 
--- bytes that come go on with what is unfinished
+-- more bytes continue what is unfinished
 abbrev WholeGoesOn : List ℕ → List ℕ → List ℕ → Type 0
 WholeGoesOn line bytes more = whole_lines_after line (bytes ++ more) ≡ whole_lines_after line bytes ++ whole_lines_after (unfinished_after line bytes) more
 
@@ -81,7 +81,7 @@ unfinished_after-append line [] more = refl
 unfinished_after-append line (byte ∷ bytes) more =
     unfinished_by (byte == 10) bytes (line ++ byte ∷ []) more (unfinished_after-append [] bytes more) (unfinished_after-append (line ++ byte ∷ []) bytes more)
 
--- what is unfinished begins a line: it has no line end
+-- what is unfinished is the start of a line: it has no line end
 pub record Begins (line : List ℕ) : Type 0 where
   pub whole : (more : List ℕ) → whole_lines_after [] (line ++ more) ≡ whole_lines_after line more
   pub rest : (more : List ℕ) → unfinished_after [] (line ++ more) ≡ unfinished_after line more
@@ -91,7 +91,8 @@ Begins-nil = record { whole = λ more. refl; rest = λ more. refl }
 
 pub Begins-more : (line : List ℕ) (byte : ℕ) → (byte == 10) ≡ false → Begins line → Begins (line ++ byte ∷ [])
 Begins-more line byte other begins = record {
-  whole = λ more. ap (λ (l : List ℕ). whole_lines_after [] l) (append_assoc line (byte ∷ []) more) ∙ (begins.whole (byte ∷ more) ∙ cond-false (byte == 10) (line ∷ whole_lines_after [] more) (whole_lines_after (line ++ byte ∷ []) more) other);
+  whole = λ more. ap (λ (l : List ℕ). whole_lines_after [] l) (append_assoc line (byte ∷ []) more) ∙ (begins.whole (byte ∷ more)
+      ∙ cond-false (byte == 10) (line ∷ whole_lines_after [] more) (whole_lines_after (line ++ byte ∷ []) more) other);
   rest = λ more. ap (λ (l : List ℕ). unfinished_after [] l) (append_assoc line (byte ∷ []) more) ∙ (begins.rest (byte ∷ more) ∙ cond-false (byte == 10) (unfinished_after [] more) (unfinished_after (line ++ byte ∷ []) more) other);
 }
 
@@ -142,7 +143,7 @@ pub input_lines-open : (bytes : List ℕ) → whole_lines bytes ≡ [] → input
 input_lines-open bytes none =
     input_lines_by bytes ∙ (ap (λ (ls : List (List ℕ)). map whole_line ls ++ last_line (unfinished bytes)) none ∙ ap (λ (l : List ℕ). last_line l) (unfinished-open bytes none))
 
--- a beginning of a line, its end, and the bytes after that
+-- the start of a line, its end, and the bytes after that
 pub input_lines-closed : (line rest : List ℕ) → Begins line → input_lines (line ++ 10 ∷ rest) ≡ whole_line line ∷ input_lines rest
 unfolding input_lines whole_lines unfinished
 input_lines-closed line rest begins =
@@ -156,7 +157,8 @@ pub record FirstCut (bytes line : List ℕ) (others : List (List ℕ)) : Type 0 
   pub begins : Begins line
   pub others_are : others ≡ whole_lines rest
 
-cut_by : (ends : Bool) (line bytes longer first : List ℕ) (byte : ℕ) (others : List (List ℕ)) → (byte == 10) ≡ ends → Begins line → cond ends (line ∷ whole_lines_after [] bytes) (whole_lines_after longer bytes) ≡ first ∷ others → (ends ≡ false → whole_lines_after longer bytes ≡ first ∷ others → FirstCut (line ++ byte ∷ bytes) first others) → FirstCut (line ++ byte ∷ bytes) first others
+cut_by : (ends : Bool) (line bytes longer first : List ℕ) (byte : ℕ) (others : List (List ℕ)) → (byte == 10) ≡ ends → Begins line → cond ends (line ∷ whole_lines_after [] bytes) (whole_lines_after longer bytes) ≡ first ∷ others
+    → (ends ≡ false → whole_lines_after longer bytes ≡ first ∷ others → FirstCut (line ++ byte ∷ bytes) first others) → FirstCut (line ++ byte ∷ bytes) first others
 cut_by true line bytes longer first byte others ends begins is later =
     let same : line ≡ first = cc in
     let end : byte ≡ 10 = eqb-true byte 10 ends in
@@ -174,7 +176,7 @@ pub first_cut : (bytes first : List ℕ) (others : List (List ℕ)) → whole_li
 unfolding whole_lines
 first_cut bytes first others is = cut_after [] bytes first others Begins-nil is
 
--- the first line of bytes that go on with a beginning has at least that
+-- the first line of bytes that continue the start of a line has at least that start
 pub record FirstGrows (line : List ℕ) (all : List InputLine) : Type 0 where
   pub first : InputLine
   pub others : List InputLine
@@ -185,7 +187,8 @@ grows_last : (line : List ℕ) → 0 < length line → FirstGrows line (last_lin
 grows_last [] filled = absurd (omega arith)
 grows_last (byte ∷ bytes) filled = record { first = open_line (byte ∷ bytes); others = []; all_are = refl; longer = omega arith }
 
-grows_by : (ends : Bool) (line bytes longer : List ℕ) → length line ≤ length longer → FirstGrows longer (input_lines_after longer bytes) → FirstGrows line (map whole_line (cond ends (line ∷ whole_lines_after [] bytes) (whole_lines_after longer bytes)) ++ last_line (cond ends (unfinished_after [] bytes) (unfinished_after longer bytes)))
+grows_by : (ends : Bool) (line bytes longer : List ℕ) → length line ≤ length longer → FirstGrows longer (input_lines_after longer bytes)
+    → FirstGrows line (map whole_line (cond ends (line ∷ whole_lines_after [] bytes) (whole_lines_after longer bytes)) ++ last_line (cond ends (unfinished_after [] bytes) (unfinished_after longer bytes)))
 grows_by true line bytes longer le later = record { first = whole_line line; others = _; all_are = refl; longer = omega arith }
 grows_by false line bytes longer le later = record { first = later.first; others = later.others; all_are = later.all_are; longer = omega (arith, le, later.longer) }
 

@@ -1,4 +1,4 @@
 pub mod WordLemmas
 pub mod LineLemmas
 pub mod InputLemmas
-pub mod PrintingLemmas
+pub mod PrintedLineLemmas

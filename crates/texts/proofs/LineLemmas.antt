@@ -13,14 +13,14 @@ pub lines_is : (bytes : List ℕ) → lines_after [] bytes ≡ lines bytes
 unfolding lines
 lines_is bytes = refl
 
--- a byte that ends no line goes on with it
+-- a byte that ends no line continues it
 pub lines_after-more : (bytes : List ℕ) (place : ℕ) → place < length bytes → (get_or bytes place 0 == 10) ≡ false → lines_after (take place bytes) (drop place bytes) ≡ lines_after (take (place + 1) bytes) (drop (place + 1) bytes)
 lines_after-more bytes place within other =
     let rest : drop place bytes ≡ get_or bytes place 0 ∷ drop (place + 1) bytes = drop_more bytes place 0 within in
-    let front : take (place + 1) bytes ≡ take place bytes ++ get_or bytes place 0 ∷ [] = take_more bytes place 0 within in
+    let prefix : take (place + 1) bytes ≡ take place bytes ++ get_or bytes place 0 ∷ [] = take_more bytes place 0 within in
     ap (lines_after (take place bytes)) rest
     ∙ (cond-false (get_or bytes place 0 == 10) (take place bytes ∷ lines_after [] (drop (place + 1) bytes)) (lines_after (take place bytes ++ get_or bytes place 0 ∷ []) (drop (place + 1) bytes)) other
-    ∙ ap (λ (line : List ℕ). lines_after line (drop (place + 1) bytes)) (sym front))
+    ∙ ap (λ (line : List ℕ). lines_after line (drop (place + 1) bytes)) (sym prefix))
 
 -- a line end ends the line before it
 pub lines_after-end : (line : List ℕ) (bytes : List ℕ) → lines_after line (10 ∷ bytes) ≡ line ∷ lines bytes
@@ -51,8 +51,9 @@ pub at_line_end : (bytes : List ℕ) (end : ℕ) → end < length bytes → get_
 at_line_end bytes end within found =
     drop_more bytes end 0 within ∙ ap (λ (byte : ℕ). byte ∷ drop (end + 1) bytes) found
 
--- the first line of a text, where it has a line end
-pub first_line : (bytes : List ℕ) (end : ℕ) → end < length bytes → get_or bytes end 0 ≡ 10 → lines bytes ≡ lines_after (take end bytes) (drop end bytes) → lines bytes ≡ take end bytes ∷ lines (take (length bytes - (end + 1)) (drop (end + 1) bytes))
+-- the first line of a text, if it has a line end
+pub first_line : (bytes : List ℕ) (end : ℕ) → end < length bytes → get_or bytes end 0 ≡ 10 → lines bytes ≡ lines_after (take end bytes) (drop end bytes)
+    → lines bytes ≡ take end bytes ∷ lines (take (length bytes - (end + 1)) (drop (end + 1) bytes))
 first_line bytes end within found cut =
     cut
     ∙ (ap (lines_after (take end bytes)) (at_line_end bytes end within found)
@@ -64,15 +65,16 @@ pub only_line : (bytes : List ℕ) (end : ℕ) → end ≡ length bytes → (len
 only_line [] end whole filled cut = absurd (filled refl)
 only_line (byte ∷ bytes) end whole filled cut =
     let text : List ℕ = byte ∷ bytes in
-    let front : take end text ≡ text = take_all end text (omega arith) in
+    let prefix : take end text ≡ text = take_all end text (omega arith) in
     let rest : drop end text ≡ [] = drop_all end text (omega arith) in
     cut
     ∙ (ap (lines_after (take end text)) rest
-    ∙ (ap if_filled front
+    ∙ (ap if_filled prefix
     ∙ ap (λ (more : List (List ℕ)). text ∷ more) (sym lines-nil)))
 
 -- the bytes of the first lines, the first of which has a line end
-pub first_size : (bytes : List ℕ) (end count : ℕ) → end < length bytes → get_or bytes end 0 ≡ 10 → size_of_lines (count + 1) bytes ≡ end + size_of_lines (count + 1) (drop end bytes) → size_of_lines (count + 1) bytes ≡ size_of_lines count (take (length bytes - (end + 1)) (drop (end + 1) bytes)) + (length bytes - length (take (length bytes - (end + 1)) (drop (end + 1) bytes)))
+pub first_size : (bytes : List ℕ) (end count : ℕ) → end < length bytes → get_or bytes end 0 ≡ 10 → size_of_lines (count + 1) bytes ≡ end + size_of_lines (count + 1) (drop end bytes)
+    → size_of_lines (count + 1) bytes ≡ size_of_lines count (take (length bytes - (end + 1)) (drop (end + 1) bytes)) + (length bytes - length (take (length bytes - (end + 1)) (drop (end + 1) bytes)))
 first_size bytes end count within found so_far =
     let rest : take (length bytes - (end + 1)) (drop (end + 1) bytes) ≡ drop (end + 1) bytes = take_rest bytes (end + 1) in
     let here : size_of_lines (count + 1) (drop end bytes) ≡ 1 + size_of_lines count (drop (end + 1) bytes) = ap (size_of_lines (count + 1)) (at_line_end bytes end within found) ∙ size_of_lines-end count (drop (end + 1) bytes) in
@@ -86,9 +88,11 @@ only_size bytes end count whole so_far =
     omega (arith, size_of_lines-nil count)
 
 -- one byte more that ends no line
-pub more_size : (bytes : List ℕ) (place count : ℕ) → place < length bytes → (get_or bytes place 0 == 10) ≡ false → size_of_lines (count + 1) bytes ≡ place + size_of_lines (count + 1) (drop place bytes) → size_of_lines (count + 1) bytes ≡ (place + 1) + size_of_lines (count + 1) (drop (place + 1) bytes)
+pub more_size : (bytes : List ℕ) (place count : ℕ) → place < length bytes → (get_or bytes place 0 == 10) ≡ false → size_of_lines (count + 1) bytes ≡ place + size_of_lines (count + 1) (drop place bytes)
+    → size_of_lines (count + 1) bytes ≡ (place + 1) + size_of_lines (count + 1) (drop (place + 1) bytes)
 more_size bytes place count within other so_far =
-    let here : size_of_lines (count + 1) (drop place bytes) ≡ 1 + size_of_lines (count + 1) (drop (place + 1) bytes) = ap (size_of_lines (count + 1)) (drop_more bytes place 0 within) ∙ size_of_lines-other count (get_or bytes place 0) (drop (place + 1) bytes) other in
+    let here : size_of_lines (count + 1) (drop place bytes) ≡ 1 + size_of_lines (count + 1) (drop (place + 1) bytes) = ap (size_of_lines (count + 1)) (drop_more bytes place 0 within)
+    ∙ size_of_lines-other count (get_or bytes place 0) (drop (place + 1) bytes) other in
     omega arith
 
 -- a text without bytes has no lines

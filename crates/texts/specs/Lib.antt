@@ -1,4 +1,4 @@
 pub mod Limits
 pub mod Words
 pub mod Lines
-pub mod Printing
+pub mod PrintedLines

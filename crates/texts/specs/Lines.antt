@@ -2,18 +2,17 @@
 use Rattle.std.specs.Prelude.{ℕ, ◌+◌, ◌-◌, ◌==◌, Bool, true, false, List, [], ◌∷◌, ◌++◌, length, map, if◌then◌else◌}
 use Rattle.texts.specs.Words.{if_filled}
 
--- the lines of a text of which `line` is the beginning of one: a line ends at byte 10, and a last one without it counts
--- where it has bytes
+-- the lines of a text of which `line` is the start of one: a line ends at byte 10, and a last one without it counts if it has bytes
 abbrev pub lines_after : List ℕ → List ℕ → List (List ℕ)
 lines_after line [] = if_filled line
 lines_after line (byte ∷ bytes) =
     if byte == 10 then line ∷ lines_after [] bytes else lines_after (line ++ byte ∷ []) bytes
 
--- the lines of a text
+-- the lines of a text, each of which ends at byte 10; a last one without it counts if it has bytes
 unfoldable pub lines : List ℕ → List (List ℕ)
 lines bytes = lines_after [] bytes
 
--- the lines whose end has come, where `line` is the beginning of one
+-- the lines whose end has come, if `line` is the start of one
 abbrev pub whole_lines_after : List ℕ → List ℕ → List (List ℕ)
 whole_lines_after line [] = []
 whole_lines_after line (byte ∷ bytes) =
@@ -23,7 +22,7 @@ whole_lines_after line (byte ∷ bytes) =
 unfoldable pub whole_lines : List ℕ → List (List ℕ)
 whole_lines bytes = whole_lines_after [] bytes
 
--- what stands after the last line end, where `line` is the beginning of a line
+-- what follows the last line end, if `line` is the start of a line
 abbrev pub unfinished_after : List ℕ → List ℕ → List ℕ
 unfinished_after line [] = line
 unfinished_after line (byte ∷ bytes) =
@@ -46,12 +45,12 @@ whole_line text = record { text = text; ended = true }
 abbrev pub open_line : List ℕ → InputLine
 open_line text = record { text = text; ended = false }
 
--- the bytes after the last line end are a line where there are any
+-- the bytes after the last line end are a line if there are any
 abbrev pub last_line : List ℕ → List InputLine
 last_line [] = []
 last_line (byte ∷ bytes) = open_line (byte ∷ bytes) ∷ []
 
--- the lines of an input: those whose end has come, and what stands after the last line end
+-- the lines of an input: those whose end has come, and what follows the last line end
 unfoldable pub input_lines : List ℕ → List InputLine
 input_lines bytes = map whole_line (whole_lines bytes) ++ last_line (unfinished bytes)
 

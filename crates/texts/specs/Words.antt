@@ -5,12 +5,12 @@ use Rattle.std.specs.Prelude.{ℕ, ◌==◌, ◌||◌, Bool, true, false, List, 
 abbrev pub is_blank : ℕ → Bool
 is_blank byte = byte == 32 || byte == 9 || byte == 13
 
--- a word, where there is something of it
+-- a word, if it has a byte
 abbrev pub if_filled : List ℕ → List (List ℕ)
 if_filled [] = []
 if_filled (byte ∷ bytes) = (byte ∷ bytes) ∷ []
 
--- the words of a line of which `word` is the beginning of one
+-- the words of a line of which `word` is the start of one
 abbrev pub words_after : List ℕ → List ℕ → List (List ℕ)
 words_after word [] = if_filled word
 words_after word (byte ∷ bytes) =

@@ -3,12 +3,12 @@ use Rattle.std.proofs.Common.{◌≡◌, ℕ, List, inl, inr, sym, ◌∙◌, su
 use Rattle.net_model.specs.Network.{Plan}
 use Rattle.net_model.specs.ShownForm.{shown_form}
 use Rattle.cert_format.specs.declared.certificate.Certificate.{Certificate}
-use Rattle.refutations.proofs.OneCertificate.{certificate_one}
+use Rattle.refutation_certificates.proofs.OneCertificate.{certificate_one}
 use Rattle.command_engine.specs.declared.endings.End.{End}
 use Rattle.common_answers.specs.VerdictLines.{PutsRefuted}
 use Rattle.verdicts.specs.Verdict.{Decides}
 
--- a verdict is one, where what is said of each answer is
+-- a verdict is one, if what is said of each answer is
 pub decided_once : {A : Type 0} (net : Plan) (Yes : A → Type 0) (No : A → Certificate → Type 0) (Same : A → A → Type 0)
     → ((one other : A) → Yes one → Yes other → Same one other) → ((one other : A) (cert : Certificate) → No one cert → No other cert → Same one other)
     → (one other : A) → Decides net (Yes one) (No one) → Decides net (Yes other) (No other) → Same one other
@@ -18,7 +18,7 @@ decided_once net Yes No Same same_yes same_no one other (inr (never, first)) (in
 decided_once net Yes No Same same_yes same_no one other (inr (never, (cert, refutes, first))) (inr (also_never, (same, also, second))) =
     same_no one other cert first (subst (No other) (certificate_one (shown_form net) same cert also.of refutes.of) second)
 
--- where a refutation is put of another, the answer is one where that to a controllable network is
+-- if it is put that a network is refuted, the answer is one if that to a controllable network is
 pub answers_once : (net : Plan) (Yes : List ℕ → End → Type 0) → ((a b : List ℕ) (x y : End) → Yes a x → Yes b y → (a ≡ b) × (x ≡ y))
     → (a b : List ℕ) (x y : End) → Decides net (Yes a x) (λ cert. PutsRefuted cert a x) → Decides net (Yes b y) (λ cert. PutsRefuted cert b y) → (a ≡ b) × (x ≡ y)
 answers_once net Yes once a b x y =

@@ -4,21 +4,21 @@ use Rattle.std.proofs.lemmas.List.{length-map}
 use Rattle.net_model.specs.Network.{Plan, IsPlan}
 use Rattle.net_model.specs.ShownForm.{shown_form, shown_link}
 use Rattle.cell_table.specs.Limits.{key_count, most_keys}
-use Rattle.controllability.specs.Laws.{CyclesOfTablesExclude, OrderedClosuresAreControllable}
+use Rattle.closure_laws.specs.Laws.{CyclesOfTablesExclude, OrderedClosuresAreControllable}
 use Rattle.strategy_model.specs.Plays.{IsInstant}
 use Rattle.strategy_model.specs.Control.{IsControllable}
 use Rattle.strategy_model.specs.ShownLaws.{ControllableIsShown}
-use Rattle.table_closing.specs.Closing.{ClosesTo}
-use Rattle.table_closing.specs.declared.closing.Closed.{Closed}
+use Rattle.network_closure.specs.Saturation.{ClosesTo}
+use Rattle.network_closure.specs.declared.closure.Closed.{Closed}
 use Rattle.closure_model.specs.OrderLaws.{OrderedTablesArePlaced}
 use Rattle.cert_format.specs.CertificateWords.{HasWeights}
 use Rattle.cert_format.specs.declared.certificate.Certificate.{Certificate}
 use Rattle.cert_checker.specs.Judgement.{judgement_of}
 use Rattle.cert_checker.specs.declared.judgement.Judgement.TheVariants.{Accepted}
 use Rattle.cert_checker.specs.declared.judgement.Claim.TheVariants.{Controllable as ControllableClaim}
-use Rattle.refutations.specs.Refuting.{Refutes}
-use Rattle.table_proofs.specs.Certified.{Certifies, Proves}
-use Rattle.table_proofs.specs.Proving.{table_proof_of}
+use Rattle.refutation_certificates.specs.Refutations.{Refutes}
+use Rattle.closure_certificates.specs.Certified.{Certifies, Proves}
+use Rattle.closure_certificates.specs.TableProofs.{table_proof_of}
 use Rattle.command_engine.specs.declared.endings.End.{End}
 use Rattle.verdicts.specs.Verdict.{Decides, IsControllableBy, IsDecidedByClosure, PutsDecided}
 use Rattle.common_answers.specs.VerdictLines.{PutsRefuted}
@@ -76,7 +76,7 @@ pub verdict_put : (net : Plan) (Yes : Type 0) (put : List ℕ) (end : End) → D
 verdict_put net Yes put end (inl controllable) = inl controllable
 verdict_put net Yes put end (inr (never, (cert, refutes, puts))) = inr (never, (cert, refutes.accepted, puts))
 
--- cells that hold the keys of a network hold those of its shown form
+-- cells into which the keys of a network fit also take those of its shown form
 pub shown_fits : (net shown : Plan) → shown ≡ shown_form net → key_count net ≤ most_keys → key_count shown ≤ most_keys
 shown_fits net shown is few =
     let many : key_count (shown_form net) ≡ key_count net = ap (λ (links : ℕ). (length net.points + links) * length net.points) (length-map net.links (shown_link net)) in

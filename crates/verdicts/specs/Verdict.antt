@@ -8,8 +8,8 @@ use Rattle.cert_format.specs.declared.certificate.Certificate.{Certificate}
 use Rattle.cert_checker.specs.Judgement.{judgement_of}
 use Rattle.cert_checker.specs.declared.judgement.Claim.TheVariants.{NotControllable}
 use Rattle.cert_checker.specs.declared.judgement.Judgement.TheVariants.{Accepted}
-use Rattle.table_closing.specs.declared.closing.Closed.{Closed}
-use Rattle.refutations.specs.Refuting.{Refutes}
+use Rattle.network_closure.specs.declared.closure.Closed.{Closed}
+use Rattle.refutation_certificates.specs.Refutations.{Refutes}
 use Rattle.execution_model.specs.Laws.{IsDispatchedByClosure}
 use Rattle.command_engine.specs.declared.endings.End.{End}
 use Rattle.common_answers.specs.VerdictLines.{PutsRefuted}
@@ -28,8 +28,8 @@ PutsDecided net Yes put end =
     (IsControllable net × Yes)
     ⊎ ((¬ IsControllable net) × ((cert : Certificate) × (judgement_of (shown_form net) cert ≡ Accepted NotControllable) × PutsRefuted cert put end))
 
--- what its closure, with the order in which the points of that are placed, says of a network without a delay: it is controllable where there
--- is such a closure, and only there
+-- what its closure, with the order in which the points of that are placed, says of a network without a delay: it is controllable if there is such a closure,
+-- and only then
 abbrev pub IsDecidedByClosure : Plan → Option Closed → Type 0
 IsDecidedByClosure net (Some closed) = IsControllable net × IsDispatchedByClosure net closed.table closed.order × (closed.order ≡ placed_points closed.table)
 IsDecidedByClosure net None = ¬ IsControllable net
@@ -41,7 +41,7 @@ pub record IsControllableBy (net shown : Plan) (closed : Closed) : Type 0 where
   pub by_closure : IsDispatchedByClosure shown closed.table closed.order
   pub placed : closed.order ≡ placed_points closed.table
 
--- what decides it: the closure of its shown form where it is controllable, else a certificate that refutes that
+-- what decides it: the closure of its shown form if it is controllable, else a certificate that refutes that
 abbrev pub IsVerdict : Plan → Verdict → Type 0
 IsVerdict net (Controllable stated shown closed) = (stated ≡ net) × IsControllableBy stated shown closed
 IsVerdict net (Refuted cert) = (¬ IsControllable net) × Refutes (shown_form net) cert

@@ -1,4 +1,5 @@
-//! The verdict of a network: its closure where some strategy controls it, else the certificate of its refutation.
+//! The verdict of a network: its closure if some strategy controls it, else the certificate of its
+//! refutation.
 #![tactic(auto)]
 
 mod verdict;

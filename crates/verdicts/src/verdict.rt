@@ -1,4 +1,4 @@
-//! The verdict of a network: every command that has one decides it here.
+//! The verdict of a network: every command that needs one decides it here.
 
 ghost use Rattle.std.specs.Prelude.{◌≡◌, ◌≤◌, IfOk};
 ghost use Rattle.net_model.specs.ShownForm.{shown_form};
@@ -7,26 +7,27 @@ ghost use Rattle.cell_table.specs.Limits.{key_count, most_keys};
 ghost use Rattle.work_board.specs.Limits.{most_seats};
 ghost use Rattle.dispatch_net.specs.OfClosure.{IsDispatchOfClosure};
 ghost use Rattle.execution_model.specs.Laws.{IsDispatchedByClosure};
-ghost use Rattle.refutations.specs.Refuting.{Refutes};
+ghost use Rattle.refutation_certificates.specs.Refutations.{Refutes};
 ghost use Rattle.verdicts.specs.Verdict.{IsDecidedByClosure, IsVerdict};
 
 use cell_table::close_by_cells;
 use cert_format::Certificate;
-use controllability::laws::{cycles_of_tables_exclude, ordered_closures_are_controllable};
+use closure_laws::laws::{law_cycles_of_tables_exclude, law_ordered_closures_are_controllable};
 use dispatch_net::Dispatch;
-use longest_durations::is_excluded_at_longest;
+use longest_case::is_excluded_at_longest;
 use net_model::Network;
+use network_closure::{Closed, close};
 use parallel_rounds::Gate;
 use plan_session::OpenSession;
 use std::alloc::{AllocError, Global};
 use std::thread::Threads;
-use strategy_model::laws::shown::controllable_is_shown;
-use table_closing::{Closed, close};
+use strategy_model::laws::shown::law_controllable_is_shown;
 
-/// The verdict of a network, and by what it is decided.
+/// The verdict of a network, and what decides it.
 #[derive(Drop)]
 pub enum Verdict {
-    /// Some strategy controls the network, which is handed back with its shown form and the closure of that.
+    /// Some strategy controls the network, which is given back with its shown form and the closure
+    /// of that.
     Controllable {
         stated: Network,
         shown: Network,
@@ -36,10 +37,13 @@ pub enum Verdict {
     Refuted(Certificate),
 }
 
-/// Decides whether a network is controllable, by closing the table of its shown form; a network that is seen to be excluded already where
-/// every link takes its longest duration is refused before its table is closed. A session is opened only where the network is not
-/// controllable, since the nodes of the certificate are those of its rounds. So many workers, 1 to 64, test the table and make the rows of
-/// a round; the gate is called before each row. `AllocError` comes only for want of memory.
+/// Decides whether a network, with any delay, is controllable, by closing the table of its shown
+/// form (`law_controllable_is_shown`, strategy_model); a network that is excluded already if every
+/// link takes its longest duration is refused before its table is closed. A session is opened only
+/// if the network is not controllable, since the nodes of the certificate are those of its rounds.
+/// So many workers, 1 to 64, test the table and make the rows of a round; the gate is called before
+/// each row. `AllocError` comes only if memory is refused. The verdict depends neither on the
+/// number of workers nor on the gate.
 pub fn decide<R: Threads + Sync, G: Gate>(
     rt: &R,
     alloc: Global,
@@ -55,8 +59,9 @@ pub fn decide<R: Threads + Sync, G: Gate>(
     verdict_by(rt, alloc, net, shown, found, workers, gate)
 }
 
-/// The same of a network whose keys shared cells hold, and by these: so many workers, 1 to 64, lower the cells of its shown form. The
-/// certificate is made of rounds here too. `AllocError` comes only for want of memory.
+/// Decides the same for a network whose keys fit into shared cells, by these: so many workers, 1 to
+/// 64, relax the cells of its shown form. The certificate is made of rounds here too. `AllocError`
+/// comes only if memory is refused.
 pub fn decide_by_cells<R: Threads + Sync, G: Gate>(
     rt: &R,
     alloc: Global,
@@ -73,7 +78,7 @@ pub fn decide_by_cells<R: Threads + Sync, G: Gate>(
     verdict_by(rt, alloc, net, shown, found, workers, gate)
 }
 
-/// The verdict of a network by what decides its shown form.
+/// The verdict of a network, by the decision of its shown form.
 fn verdict_by<R: Threads + Sync, G: Gate>(
     rt: &R,
     alloc: Global,
@@ -88,7 +93,7 @@ fn verdict_by<R: Threads + Sync, G: Gate>(
     requires workers { (1 ≤ workers) × (workers ≤ most_seats) }
     ensures { IfOk result (IsVerdict net) }
 {
-    controllable_is_shown();
+    law_controllable_is_shown();
     net.sound();
     match found {
         Some(closed) => Ok(Verdict::Controllable {
@@ -103,7 +108,8 @@ fn verdict_by<R: Threads + Sync, G: Gate>(
     }
 }
 
-/// Decides as `decide_by_closure` does, but closes no table of a network for which `is_excluded_at_longest` says yes.
+/// Decides as `decide_by_closure` does, but closes no table of a network for which
+/// `is_excluded_at_longest` is true.
 fn closed_unless_excluded<R: Threads + Sync>(
     rt: &R,
     alloc: Global,
@@ -120,8 +126,9 @@ fn closed_unless_excluded<R: Threads + Sync>(
     decide_by_closure(rt, alloc, net, workers)
 }
 
-/// Decides whether a network without a delay is controllable, and makes no certificate: the closure with the order of its points where it is, and `None`
-/// exactly where it is not. So many workers test the table. `AllocError` comes only for want of memory.
+/// Decides whether a network without a delay is controllable, and makes no certificate: the closure
+/// with the order of its points if it is, and `None` exactly if it is not. So many workers test the
+/// table. `AllocError` comes only if memory is refused.
 pub fn decide_by_closure<R: Threads + Sync>(
     rt: &R,
     alloc: Global,
@@ -132,13 +139,14 @@ pub fn decide_by_closure<R: Threads + Sync>(
     requires no_delay { net.now.delay ≡ 0 }
     ensures { IfOk result (IsDecidedByClosure net.now) }
 {
-    ordered_closures_are_controllable();
-    cycles_of_tables_exclude();
+    law_ordered_closures_are_controllable();
+    law_cycles_of_tables_exclude();
     net.sound();
     close(rt, alloc, net, workers)
 }
 
-/// The same of a network whose keys shared cells hold, by these: so many workers, 1 to 64, lower them.
+/// Decides the same for a network whose keys fit into shared cells, by these: so many workers, 1 to
+/// 64, relax them.
 fn closed_by_cells<R: Threads + Sync>(
     rt: &R,
     alloc: Global,
@@ -150,14 +158,15 @@ fn closed_by_cells<R: Threads + Sync>(
     requires no_delay { net.now.delay ≡ 0 }
     ensures { IfOk result (IsDecidedByClosure net.now) }
 {
-    ordered_closures_are_controllable();
-    cycles_of_tables_exclude();
+    law_ordered_closures_are_controllable();
+    law_cycles_of_tables_exclude();
     net.sound();
     close_by_cells(rt, alloc, net, workers)
 }
 
-/// The certificate that refutes the shown form of a network, which is not controllable, by the rounds of so many workers, 1 to 64; the gate is called before
-/// each row. `AllocError` comes only for want of memory.
+/// The certificate that refutes the shown form of a network, which is not controllable, by the
+/// rounds of so many workers, 1 to 64; the gate is called before each row. `AllocError` comes only
+/// if memory is refused.
 pub fn refute<R: Threads + Sync, G: Gate>(
     rt: &R,
     alloc: Global,
@@ -169,13 +178,14 @@ pub fn refute<R: Threads + Sync, G: Gate>(
     requires workers { (1 ≤ workers) × (workers ≤ most_seats) }
     ensures { IfOk result (Refutes (shown_form net)) }
 {
-    controllable_is_shown();
+    law_controllable_is_shown();
     net.sound();
     let session = OpenSession::open(rt, alloc, net, workers, gate)?;
     session.certificate(rt, alloc)
 }
 
-/// The dispatchable network of a controllable network by its closure. `AllocError` comes only for want of memory.
+/// The dispatchable network of a controllable network by its closure. `AllocError` comes only if
+/// memory is refused.
 pub fn dispatch_by(alloc: Global, net: &Network, closed: &Closed) -> Result<Dispatch, AllocError>
     requires { IsDispatchedByClosure net.now closed.now.table closed.now.order }
     ensures { IfOk result (IsDispatchOfClosure net.now) }

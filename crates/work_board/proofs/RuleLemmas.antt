@@ -7,7 +7,7 @@ use Rattle.std.proofs.lemmas.List.Elements.{All-nil, All-cons}
 use mathlib.Core.Option.{some}
 use lib.ListN.{get_elem?}
 use Rattle.work_board.specs.BoardHistory.{BoardHistory, make, split, draw, join}
-use Rattle.work_board.specs.BoardRule.{total, times, once_below, has_number, OfLive, IsSeat, next_drawer, BoardRule, HistoriesKeepTheRule}
+use Rattle.work_board.specs.BoardRule.{total_of_live, times_drawn, once_below, has_number, OfLive, IsSeat, next_drawer, BoardRule, HistoriesKeepTheRule}
 use Rattle.work_board.specs.Views.{first_view, drawn}
 use Rattle.work_board.specs.declared.view.Draw.{Draw}
 use Rattle.work_board.specs.declared.view.Size.{Size}
@@ -15,11 +15,11 @@ use Rattle.work_board.specs.declared.view.Standing.{Standing}
 use Rattle.work_board.specs.declared.view.Standing.TheVariants.{Live, Spent}
 use Rattle.work_board.specs.declared.view.View.{View}
 use Rattle.work_board.proofs.Totals.{total_set, total_at, total_plus, total_le, total_zero, all_of_times}
-use Rattle.work_board.proofs.StepLemmas.{all_of_first, split_total, split_keeps, draw_total, drawn_told, draw_keeps, join_total, join_keeps}
+use Rattle.work_board.proofs.StepLemmas.{all_of_first, split_total, split_keeps, draw_total, drawn_heard_end, draw_keeps, join_total, join_keeps}
 
 module _ (size : Size) where
   -- a board that was just made
-  make_apart : (drawer : ℕ) → total (has_number drawer) (Live (first_view size) ∷ []) ≤ 1
+  make_apart : (drawer : ℕ) → total_of_live (has_number drawer) (Live (first_view size) ∷ []) ≤ 1
   make_apart drawer = elim (cases_eq 0 drawer) [
     | inl same ↦ let one : has_number drawer (first_view size) ≡ 1 = ap (λ b. cond {A = ℕ} b 1 0) (eq-eqb 0 drawer same) in omega arith
     | inr other ↦ let none : has_number drawer (first_view size) ≡ 0 = ap (λ b. cond {A = ℕ} b 1 0) (ne_eqb 0 drawer other) in omega arith
@@ -38,7 +38,7 @@ module _ (size : Size) where
     others = refl;
     seats = omega arith;
     each = All-cons (OfLive (IsSeat size 1)) (Live (first_view size)) []
-        (record { targets = refl; told_once = omega arith; split_seats = (λ other. absurd (other refl)); numbered = omega arith; drew = All-nil (λ (draw : Draw). draw.drawer < 1) })
+        (record { targets = refl; heard_end_once = omega arith; split_seats = (λ other. absurd (other refl)); numbered = omega arith; drew = All-nil (λ (draw : Draw). draw.drawer < 1) })
         (All-nil (OfLive (IsSeat size 1)));
   }
 
@@ -60,33 +60,33 @@ every_history_keeps size number standings seats history = keeps size seats numbe
 module _ (size : Size) (seats : 0 < size.seats) where
   -- a draw raises the number by one: either it is below the count of targets, or there was nothing left once more
   draw_bounded : (number : ℕ) (before : List Standing) (history : BoardHistory size number before) (seat : ℕ) (view : View) → get_elem? before seat ≡ some (Live view)
-      → number ≤ size.targets + total (λ view. view.nones) before → number + 1 ≤ size.targets + total (λ view. view.nones) (set before seat (Live (drawn view number)))
+      → number ≤ size.targets + total_of_live (λ view. view.nones) before → number + 1 ≤ size.targets + total_of_live (λ view. view.nones) (set before seat (Live (drawn view number)))
   draw_bounded number before history seat view at bound =
       let rule = keeps size seats number before history in
       let s = draw_total size number before rule seat view at (λ view. view.nones) (drawn view number) in
       elim (cases_lt number size.targets) [
         | inl below ↦ omega arith
-        | inr past ↦ let more : (drawn view number).nones ≡ view.nones + 1 = ap (λ (w : View). w.nones) (drawn_told size number before rule seat view at past) in omega arith
+        | inr past ↦ let more : (drawn view number).nones ≡ view.nones + 1 = ap (λ (w : View). w.nones) (drawn_heard_end size number before rule seat view at past) in omega arith
       ]
 
   -- the number of a board is at most the count of targets, and how often there was nothing left
-  bounded : (number : ℕ) (standings : List Standing) → BoardHistory size number standings → number ≤ size.targets + total (λ view. view.nones) standings
+  bounded : (number : ℕ) (standings : List Standing) → BoardHistory size number standings → number ≤ size.targets + total_of_live (λ view. view.nones) standings
   bounded _ _ (make views is) = omega arith
   bounded _ _ (split number before after seat view history at may is) =
       let before_bound = bounded number before history in
       let s = split_total size number before (keeps size seats number before history) seat view at may (λ view. view.nones) in
-      subst (λ (l : List Standing). number ≤ size.targets + total (λ view. view.nones) l) (sym is) (omega arith)
+      subst (λ (l : List Standing). number ≤ size.targets + total_of_live (λ view. view.nones) l) (sym is) (omega arith)
   bounded _ _ (draw number next before after seat view history at untold one_more is) =
-      subst (λ (n : ℕ). n ≤ size.targets + total (λ view. view.nones) after) (sym one_more)
-      (subst (λ (l : List Standing). number + 1 ≤ size.targets + total (λ view. view.nones) l) (sym is) (draw_bounded number before history seat view at (bounded number before history)))
+      subst (λ (n : ℕ). n ≤ size.targets + total_of_live (λ view. view.nones) after) (sym one_more)
+      (subst (λ (l : List Standing). number + 1 ≤ size.targets + total_of_live (λ view. view.nones) l) (sym is) (draw_bounded number before history seat view at (bounded number before history)))
   bounded _ _ (join number before after seat other view joining history at there apart some_out is) =
       let before_bound = bounded number before history in
       let s = join_total size number before (keeps size seats number before history) seat view at other joining there apart some_out (λ view. view.nones) in
-      subst (λ (l : List Standing). number ≤ size.targets + total (λ view. view.nones) l) (sym is) (omega arith)
+      subst (λ (l : List Standing). number ≤ size.targets + total_of_live (λ view. view.nones) l) (sym is) (omega arith)
 
-  told_standing : (next : ℕ) (standing : Standing) → OfLive (IsSeat size next) standing → OfLive (λ view. view.nones ≤ view.joined + 1) standing
-  told_standing next (Live view) is = is.told_once
-  told_standing next Spent is = is
+  heard_end_standing : (next : ℕ) (standing : Standing) → OfLive (IsSeat size next) standing → OfLive (λ view. view.nones ≤ view.joined + 1) standing
+  heard_end_standing next (Live view) is = is.heard_end_once
+  heard_end_standing next Spent is = is
 
   spare_standing : (standing : Standing) → OfLive (λ view. view.out + view.joined ≤ view.out + view.joined + view.to_split) standing
   spare_standing (Live view) = omega arith
@@ -97,7 +97,7 @@ module _ (size : Size) (seats : 0 < size.seats) where
   few number standings history =
       let rule = keeps size seats number standings history in
       let bound = bounded number standings history in
-      let told_at_most = total_le (λ view. view.nones) (λ view. view.joined + 1) standings (λ k d lt. told_standing (next_drawer standings) (get_or standings k d) (rule.each k d lt)) in
+      let heard_end_at_most = total_le (λ view. view.nones) (λ view. view.joined + 1) standings (λ k d lt. heard_end_standing (next_drawer standings) (get_or standings k d) (rule.each k d lt)) in
       let parts = total_plus (λ view. view.joined) (λ _. 1) standings in
       let both = total_plus (λ view. view.out) (λ view. view.joined) standings in
       let spare = total_le (λ view. view.out + view.joined) (λ view. view.out + view.joined + view.to_split) standings (λ k d lt. spare_standing (get_or standings k d)) in
@@ -113,15 +113,15 @@ module _ (size : Size) (number : ℕ) (standings : List Standing) (rule : BoardR
   -- the number of a board is above all that a seat holds
   pub above_held : All (λ (draw : Draw). draw.number < number) view.held
   above_held = all_of_times number view.held (λ held some.
-      let most = total_at (λ other. times held other.held) standings seat (Live view) at in
+      let most = total_at (λ other. times_drawn held other.held) standings seat (Live view) at in
       let all = rule.once held in
       let below = below_of_once held (min number size.targets) (omega arith) in omega arith)
 
-  module _ (first : view.drawer ≡ 0) (out : view.out ≡ 0) (told_once : 0 < view.nones) where
-    zero_out : total (λ other. other.out) standings ≡ 0
+  module _ (first : view.drawer ≡ 0) (out : view.out ≡ 0) (heard_end_once : 0 < view.nones) where
+    zero_out : total_of_live (λ other. other.out) standings ≡ 0
     zero_out = let only = all_of_first size number standings rule seat view at (λ other. other.out) first (λ other is later. (is.split_seats later).0) in omega arith
 
-    none_else : total (λ _. 1) (set standings seat Spent) ≡ 0
+    none_else : total_of_live (λ _. 1) (set standings seat Spent) ≡ 0
     none_else = let s = total_set (λ _. 1) standings seat (Live view) Spent at in let others = rule.others in let zero_there = zero_out in omega arith
 
     counts_nothing : (f : View → ℕ) (standing : Standing) → OfLive (λ other. ◌≡◌ {A = ℕ} 1 0 → f other ≡ 0) standing
@@ -129,15 +129,15 @@ module _ (size : Size) (number : ℕ) (standings : List Standing) (rule : BoardR
     counts_nothing f Spent = tt
 
     -- the first seat with no other out is the only one
-    only_seat : (f : View → ℕ) → total f standings ≡ f view
+    only_seat : (f : View → ℕ) → total_of_live f standings ≡ f view
     only_seat f =
         let s = total_set f standings seat (Live view) Spent at in
         let rest = total_zero f (λ _. 1) (set standings seat Spent) (λ k d lt. counts_nothing f (get_or (set standings seat Spent) k d)) none_else in omega arith
 
     -- and it holds each number below the count of targets once
-    pub each_once : (held : ℕ) → times held view.held ≡ once_below held size.targets
+    pub each_once : (held : ℕ) → times_drawn held view.held ≡ once_below held size.targets
     each_once held =
-        let only = only_seat (λ other. times held other.held) in
+        let only = only_seat (λ other. times_drawn held other.held) in
         let nones = only_seat (λ other. other.nones) in
         let all = rule.once held in
         let past = rule.passed (omega arith) in

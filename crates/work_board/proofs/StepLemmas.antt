@@ -7,7 +7,7 @@ use Rattle.std.proofs.lemmas.List.Elements.{All-nil, All-set, All-push, All-appe
 use mathlib.Core.Option.{some}
 use lib.ListN.{get_elem?}
 use Rattle.atomic_table.proofs.Lists.{set_else}
-use Rattle.work_board.specs.BoardRule.{total, times, once_below, has_number, OfLive, IsSeat, next_drawer, BoardRule}
+use Rattle.work_board.specs.BoardRule.{total_of_live, times_drawn, once_below, has_number, OfLive, IsSeat, next_drawer, BoardRule}
 use Rattle.work_board.specs.Views.{split_from, split_off, drawn, joined_with}
 use Rattle.work_board.specs.declared.view.Draw.{Draw}
 use Rattle.work_board.specs.declared.view.Size.{Size}
@@ -16,14 +16,14 @@ use Rattle.work_board.specs.declared.view.Standing.TheVariants.{Live, Spent}
 use Rattle.work_board.specs.declared.view.View.{View}
 use Rattle.work_board.proofs.Totals.{all_at, total_set, total_snoc, total_at, total_none, total_zero, times_snoc, times_append, once_more}
 
--- what seats know stays true where there are more numbers of seats
+-- what seats know stays true if there are more numbers of seats
 drew_more : (next later : ℕ) → next ≤ later → (draws : List Draw) → All (λ (draw : Draw). draw.drawer < next) draws → All (λ (draw : Draw). draw.drawer < later) draws
 drew_more next later more draws all k d lt = let here = all k d lt in omega arith
 
 seat_more : (size : Size) (next later : ℕ) → next ≤ later → (view : View) → IsSeat size next view → IsSeat size later view
 seat_more size next later more view seat = record {
   targets = seat.targets;
-  told_once = seat.told_once;
+  heard_end_once = seat.heard_end_once;
   split_seats = seat.split_seats;
   numbered = (let before = seat.numbered in omega arith);
   drew = drew_more next later more view.held seat.drew;
@@ -50,11 +50,11 @@ module _ (size : Size) (number : ℕ) (before : List Standing) (rule : BoardRule
   first_counts : view.drawer ≡ 0 → has_number 0 view ≡ 1
   first_counts first = ap (λ b. cond {A = ℕ} b 1 0) (eq-eqb view.drawer 0 first)
 
-  none_other_first : view.drawer ≡ 0 → total (has_number 0) (set before seat Spent) ≡ 0
+  none_other_first : view.drawer ≡ 0 → total_of_live (has_number 0) (set before seat Spent) ≡ 0
   none_other_first first = let s = total_set (has_number 0) before seat (Live view) Spent at in let one = first_counts first in let all = rule.first in omega arith
 
   -- what only the first seat counts, all count
-  pub all_of_first : (f : View → ℕ) → view.drawer ≡ 0 → ((other : View) → IsSeat size (next_drawer before) other → other.drawer ≢ 0 → f other ≡ 0) → total f before ≡ f view
+  pub all_of_first : (f : View → ℕ) → view.drawer ≡ 0 → ((other : View) → IsSeat size (next_drawer before) other → other.drawer ≢ 0 → f other ≡ 0) → total_of_live f before ≡ f view
   all_of_first f first zero_else =
       let s = total_set f before seat (Live view) Spent at in
       let others = All-set (OfLive (IsSeat size (next_drawer before))) before seat Spent tt rule.each in
@@ -68,7 +68,7 @@ module _ (size : Size) (number : ℕ) (before : List Standing) (rule : BoardRule
       each_zero l all k d lt = standing_zero (get_or l k d) (all k d lt)
 
   -- no seat has a number yet that the next seats will have
-  none_numbered : (drawer : ℕ) → next_drawer before ≤ drawer → total (has_number drawer) before ≡ 0
+  none_numbered : (drawer : ℕ) → next_drawer before ≤ drawer → total_of_live (has_number drawer) before ≡ 0
   none_numbered drawer later = total_none (has_number drawer) before (λ k d lt. unnumbered (get_or before k d) (rule.each k d lt))
     where
       unnumbered : (standing : Standing) → OfLive (IsSeat size (next_drawer before)) standing → OfLive (λ other. has_number drawer other ≡ 0) standing
@@ -83,17 +83,17 @@ module _ (size : Size) (number : ℕ) (before : List Standing) (rule : BoardRule
     split_first : view.drawer ≡ 0
     split_first = first_of_count (omega arith)
 
-    pub split_total : (f : View → ℕ) → total f after_split + f view ≡ total f before + f (split_from view) + f (split_off view)
+    pub split_total : (f : View → ℕ) → total_of_live f after_split + f view ≡ total_of_live f before + f (split_from view) + f (split_off view)
     split_total f =
         let s = total_set f before seat (Live view) (Live (split_from view)) at in let t = total_snoc f (set before seat (Live (split_from view))) (Live (split_off view)) in omega arith
 
-    split_next : total (λ other. other.out + other.joined) before ≡ view.out + view.joined
+    split_next : total_of_live (λ other. other.out + other.joined) before ≡ view.out + view.joined
     split_next = all_of_first (λ other. other.out + other.joined) split_first (λ other is later. let none = is.split_seats later in let out = none.0 in let joined = none.1 in omega arith)
 
-    split_number : total (λ other. other.out + other.joined) after_split ≡ total (λ other. other.out + other.joined) before + 1
+    split_number : total_of_live (λ other. other.out + other.joined) after_split ≡ total_of_live (λ other. other.out + other.joined) before + 1
     split_number = let s = split_total (λ other. other.out + other.joined) in omega arith
 
-    split_apart : (drawer : ℕ) → total (has_number drawer) after_split ≤ 1
+    split_apart : (drawer : ℕ) → total_of_live (has_number drawer) after_split ≤ 1
     split_apart drawer =
         let s = split_total (has_number drawer) in
         elim (cases_eq (view.out + view.joined + 1) drawer) [
@@ -111,11 +111,11 @@ module _ (size : Size) (number : ℕ) (before : List Standing) (rule : BoardRule
         let later = seat_more size (next_drawer before) (next_drawer after_split) more view seat_is in
         All-push (OfLive (IsSeat size (next_drawer after_split))) (set before seat (Live (split_from view))) (Live (split_off view))
         (All-set (OfLive (IsSeat size (next_drawer after_split))) before seat (Live (split_from view))
-        (record { targets = later.targets; told_once = later.told_once; split_seats = (λ other. absurd (other split_first)); numbered = later.numbered; drew = later.drew })
+        (record { targets = later.targets; heard_end_once = later.heard_end_once; split_seats = (λ other. absurd (other split_first)); numbered = later.numbered; drew = later.drew })
         (each_more size (next_drawer before) (next_drawer after_split) more before rule.each))
         (record {
           targets = later.targets;
-          told_once = omega arith;
+          heard_end_once = omega arith;
           split_seats = (λ other. (refl, refl, refl));
           numbered = (let n = split_number in let next = split_next in omega arith);
           drew = All-nil (λ (draw : Draw). draw.drawer < next_drawer after_split);
@@ -123,7 +123,7 @@ module _ (size : Size) (number : ℕ) (before : List Standing) (rule : BoardRule
 
     pub split_keeps : BoardRule size number after_split
     split_keeps = record {
-      once = (λ held. let s = split_total (λ other. times held other.held) in let all = rule.once held in omega arith);
+      once = (λ held. let s = split_total (λ other. times_drawn held other.held) in let all = rule.once held in omega arith);
       apart = split_apart;
       counted = (let s = split_total (λ other. length other.held + other.nones) in let all = rule.counted in omega arith);
       passed = (λ some. let s = split_total (λ other. other.nones) in rule.passed (omega arith));
@@ -136,7 +136,7 @@ module _ (size : Size) (number : ℕ) (before : List Standing) (rule : BoardRule
     }
 
   -- ---- a seat draws
-  pub draw_total : (f : View → ℕ) (w : View) → total f (set before seat (Live w)) + f view ≡ total f before + f w
+  pub draw_total : (f : View → ℕ) (w : View) → total_of_live f (set before seat (Live w)) + f view ≡ total_of_live f before + f w
   draw_total f w = total_set f before seat (Live view) (Live w) at
 
   draw_each : (w : View) → (next_drawer (set before seat (Live w)) ≡ next_drawer before) → IsSeat size (next_drawer before) w
@@ -149,9 +149,9 @@ module _ (size : Size) (number : ℕ) (before : List Standing) (rule : BoardRule
   abbrev pub taken : View
   taken = record view { held = view.held ++ record { number = number; drawer = view.drawer } ∷ [] }
 
-  taken_once : number < size.targets → (held : ℕ) → total (λ other. times held other.held) (set before seat (Live taken)) ≡ once_below held (min (number + 1) size.targets)
+  taken_once : number < size.targets → (held : ℕ) → total_of_live (λ other. times_drawn held other.held) (set before seat (Live taken)) ≡ once_below held (min (number + 1) size.targets)
   taken_once below held =
-      let s = draw_total (λ other. times held other.held) taken in
+      let s = draw_total (λ other. times_drawn held other.held) taken in
       let more = times_snoc held view.held record { number = number; drawer = view.drawer } in
       let all = rule.once held in
       let now : once_below held (min number size.targets) ≡ once_below held number = ap (once_below held) (omega arith) in
@@ -172,21 +172,21 @@ module _ (size : Size) (number : ℕ) (before : List Standing) (rule : BoardRule
     each = draw_each taken (let s = draw_total (λ other. other.out + other.joined) taken in omega arith)
         (record {
           targets = seat_is.targets;
-          told_once = seat_is.told_once;
+          heard_end_once = seat_is.heard_end_once;
           split_seats = seat_is.split_seats;
           numbered = seat_is.numbered;
           drew = All-push (λ (draw : Draw). draw.drawer < next_drawer before) view.held record { number = number; drawer = view.drawer } seat_is.drew seat_is.numbered;
         });
   }
 
-  -- the seat is told that there is nothing left
+  -- the seat draws when there is nothing left
   abbrev pub told : View
   told = record view { nones = view.nones + 1 }
 
-  pub told_keeps : size.targets ≤ number → view.nones ≡ 0 → BoardRule size (number + 1) (set before seat (Live told))
-  told_keeps past untold = record {
+  pub heard_end_keeps : size.targets ≤ number → view.nones ≡ 0 → BoardRule size (number + 1) (set before seat (Live told))
+  heard_end_keeps past untold = record {
     once = (λ held.
-        let s = draw_total (λ other. times held other.held) told in let all = rule.once held in
+        let s = draw_total (λ other. times_drawn held other.held) told in let all = rule.once held in
         let same : once_below held (min number size.targets) ≡ once_below held (min (number + 1) size.targets) = ap (once_below held) (omega arith) in omega arith);
     apart = (λ drawer. let s = draw_total (has_number drawer) told in let most = rule.apart drawer in omega arith);
     counted = (let s = draw_total (λ other. length other.held + other.nones) told in let all = rule.counted in omega arith);
@@ -195,20 +195,20 @@ module _ (size : Size) (number : ℕ) (before : List Standing) (rule : BoardRule
     others = (let s = draw_total (λ _. 1) told in let t = draw_total (λ other. other.out) told in let all = rule.others in omega arith);
     seats = (let s = draw_total (λ other. other.out + other.joined + other.to_split) told in let all = rule.seats in omega arith);
     each = draw_each told (let s = draw_total (λ other. other.out + other.joined) told in omega arith)
-        (record { targets = seat_is.targets; told_once = omega arith; split_seats = seat_is.split_seats; numbered = seat_is.numbered; drew = seat_is.drew });
+        (record { targets = seat_is.targets; heard_end_once = omega arith; split_seats = seat_is.split_seats; numbered = seat_is.numbered; drew = seat_is.drew });
   }
 
   -- what a draw makes of a seat is one of the two
   pub drawn_taken : number < size.targets → drawn view number ≡ taken
   drawn_taken below = ap (λ b. if b then taken else told) (lt-ltb number view.targets (let same = seat_is.targets in omega arith))
 
-  pub drawn_told : size.targets ≤ number → drawn view number ≡ told
-  drawn_told past = ap (λ b. if b then taken else told) (le-ltb number view.targets (let same = seat_is.targets in omega arith))
+  pub drawn_heard_end : size.targets ≤ number → drawn view number ≡ told
+  drawn_heard_end past = ap (λ b. if b then taken else told) (le-ltb number view.targets (let same = seat_is.targets in omega arith))
 
   pub draw_keeps : view.nones ≡ 0 → BoardRule size (number + 1) (set before seat (Live (drawn view number)))
   draw_keeps untold = elim (cases_lt number size.targets) [
     | inl below ↦ subst (λ (w : View). BoardRule size (number + 1) (set before seat (Live w))) (sym (drawn_taken below)) (taken_keeps below)
-    | inr past ↦ subst (λ (w : View). BoardRule size (number + 1) (set before seat (Live w))) (sym (drawn_told past)) (told_keeps past untold)
+    | inr past ↦ subst (λ (w : View). BoardRule size (number + 1) (set before seat (Live w))) (sym (drawn_heard_end past)) (heard_end_keeps past untold)
   ]
 
   -- ---- a seat is joined into another
@@ -228,7 +228,7 @@ module _ (size : Size) (number : ℕ) (before : List Standing) (rule : BoardRule
         let most = total_at (has_number 0) (set before seat Spent) other (Live joining) (set_else before seat other Spent apart ∙ there) in
         let one : has_number 0 joining ≡ 1 = ap (λ b. cond {A = ℕ} b 1 0) (eq-eqb joining.drawer 0 first) in omega arith
 
-    pub join_total : (f : View → ℕ) → total f after_join + f view + f joining ≡ total f before + f (joined_with view joining)
+    pub join_total : (f : View → ℕ) → total_of_live f after_join + f view + f joining ≡ total_of_live f before + f (joined_with view joining)
     join_total f =
         let s = total_set f before seat (Live view) (Live (joined_with view joining)) at in
         let t = total_set f (set before seat (Live (joined_with view joining))) other (Live joining) Spent (set_else before seat other (Live (joined_with view joining)) apart ∙ there) in omega arith
@@ -240,13 +240,13 @@ module _ (size : Size) (number : ℕ) (before : List Standing) (rule : BoardRule
     join_each : All (OfLive (IsSeat size (next_drawer after_join))) after_join
     join_each =
         let none = joining_is.split_seats joining_later in let joined = none.1 in
-        let once = seat_is.told_once in let other_once = joining_is.told_once in
+        let once = seat_is.heard_end_once in let other_once = joining_is.heard_end_once in
         each_more size (next_drawer before) (next_drawer after_join) (let same = join_next in omega arith) after_join
         (All-set (OfLive (IsSeat size (next_drawer before))) (set before seat (Live (joined_with view joining))) other Spent tt
         (All-set (OfLive (IsSeat size (next_drawer before))) before seat (Live (joined_with view joining))
         (record {
           targets = seat_is.targets;
-          told_once = omega arith;
+          heard_end_once = omega arith;
           split_seats = (λ later. absurd (later join_first));
           numbered = seat_is.numbered;
           drew = All-append (λ (draw : Draw). draw.drawer < next_drawer before) view.held joining.held seat_is.drew joining_is.drew;
@@ -257,7 +257,7 @@ module _ (size : Size) (number : ℕ) (before : List Standing) (rule : BoardRule
     join_keeps =
         let none = joining_is.split_seats joining_later in let out = none.0 in let joined = none.1 in let to_split = none.2 in
         record {
-          once = (λ held. let s = join_total (λ seat. times held seat.held) in let t = times_append held view.held joining.held in let all = rule.once held in omega arith);
+          once = (λ held. let s = join_total (λ seat. times_drawn held seat.held) in let t = times_append held view.held joining.held in let all = rule.once held in omega arith);
           apart = (λ drawer. let s = join_total (has_number drawer) in let most = rule.apart drawer in omega arith);
           counted = (let s = join_total (λ seat. length seat.held + seat.nones) in let t = length-append view.held joining.held in let all = rule.counted in omega arith);
           passed = (λ some. let s = join_total (λ seat. seat.nones) in rule.passed (omega arith));

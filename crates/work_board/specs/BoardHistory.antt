@@ -8,8 +8,9 @@ use Rattle.work_board.specs.declared.view.Standing.{Standing}
 use Rattle.work_board.specs.declared.view.Standing.TheVariants.{Live, Spent}
 use Rattle.work_board.specs.declared.view.View.{View}
 
--- The number of a board and what its seats know, after a history of steps. The board has one number, at first 0. A draw takes the
--- present number and raises it by one.
+-- The number of a board and what its seats know, after a history of steps. The board has one number, at first 0. A draw takes the present
+-- number and raises it by one; a seat that once drew when there was nothing left draws no more. A seat is split from the first, or joined
+-- into it.
 pub data BoardHistory (size : Size) : ℕ → List Standing → Type 0 where
   make : (views : List Standing) → views ≡ Live (first_view size) ∷ [] → BoardHistory size 0 views
   split : (number : ℕ) (before after : List Standing) (seat : ℕ) (view : View) → BoardHistory size number before

@@ -1,4 +1,4 @@
--- The table of a board under its rule, and what a draw tells its seat.
+-- The table of a board under its rule, and what a seat learns by a draw.
 use Rattle.std.specs.Prelude.{◌≡◌, ℕ, ◌<◌, ◌≤◌, ◌^◌, [], ◌∷◌}
 use Rattle.std.specs.List.{All}
 use Rattle.atomic_table.specs.Table.{State, Me, Step}
@@ -17,28 +17,30 @@ pub record IsSize (size : Size) : Type 0 where
   pub few : size.seats ≤ most_seats
   pub targets : size.targets < 2 ^ 32
 
--- a history of the board led to what the table contains: word 0 is the number of the board
-pub record IsLed (size : Size) (state : State (Unit {0}) Standing) : Type 0 where
+-- what the table contains is reached by a history of the board: word 0 is the number of the board
+pub record IsReachedBy (size : Size) (state : State (Unit {0}) Standing) : Type 0 where
   pub sized : IsSize size
   pub number : ℕ
   pub word : state.words ≡ number ∷ []
   pub history : BoardHistory size number state.views
 
--- what a draw tells: the number that was found is above all that the seat held, and the seat drew it
-pub record Told (me : Me (Unit {0}) Standing) (found : ℕ) (after : Me (Unit {0}) Standing) : Type 0 where
+-- what a draw shows: the number that was found is above all that the seat held, and the seat drew it
+pub record StepFound (me : Me (Unit {0}) Standing) (found : ℕ) (after : Me (Unit {0}) Standing) : Type 0 where
   pub view : View
   pub was : me.0 ≡ Live view
   pub above : All (λ (draw : Draw). draw.number < found) view.held
   pub is : after ≡ (Live (drawn view found), [])
 
+-- what a draw shows to its seat
 abbrev pub drew : Step (Unit {0}) → Me (Unit {0}) Standing → ℕ → Me (Unit {0}) Standing → Type 0
-drew step me found after = Told me found after
+drew step me found after = StepFound me found after
 
 -- what is left of a seat's standing when another was split from it, and that of the other
 abbrev pub left_of : Standing → Standing
 left_of (Live view) = Live (split_from view)
 left_of Spent = Spent
 
+-- the standing of a seat that was split from another
 abbrev pub right_of : Standing → Standing
 right_of (Live view) = Live (split_off view)
 right_of Spent = Spent

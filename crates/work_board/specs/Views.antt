@@ -15,8 +15,7 @@ split_from view = record view { to_split = view.to_split - 1; out = view.out + 1
 abbrev pub split_off : View → View
 split_off view = record { targets = view.targets; drawer = view.out + view.joined + 1; held = []; nones = 0; out = 0; joined = 0; to_split = 0 }
 
--- a seat after it drew when the board had a number: it holds the number if that is one of a target, else it was told that there is
--- nothing left
+-- a seat after it drew when the board had a number: it holds the number if that is one of a target, else it knows that there is nothing left
 abbrev pub drawn : View → ℕ → View
 drawn view number =
     if nat_lt number view.targets

@@ -1,5 +1,7 @@
+//! A board of numbered targets, each of which is drawn once.
+
 ghost use Rattle.std.specs.Prelude.{◌≡◌, ◌≤◌, ◌<◌, IfOk};
-ghost use Rattle.work_board.specs.Boards.{IsSeatOf, Draws, EachOnce};
+ghost use Rattle.work_board.specs.Boards.{IsSeatOfBoard, Draws, EachOnce};
 ghost use Rattle.work_board.specs.Limits.{most_seats};
 ghost use Rattle.work_board.specs.Views.{first_view, split_from, split_off, joined_with};
 
@@ -11,7 +13,9 @@ use std::alloc::{AllocError, Global};
 use std::marker::Model;
 use std::snapshot::Snapshot;
 
-/// A board of numbered targets. Each number below the count of targets is drawn once.
+/// A board of numbered targets. Each number below the count of targets is drawn once. `new` gives
+/// it with its first seat. Each worker draws with a seat of its own, which was split from the first
+/// one and is joined into it at the end; `close` gives what was drawn.
 #[derive(Drop)]
 pub struct Board {
     table: Table<(), Standing, Size, Histories, Global>,
@@ -27,13 +31,18 @@ impl Model for Board {
 
     ghost coded = { board_code };
 
-    ghost view = { λ board. record { id = board.table.shared.table_id; size = board.table.shared.key } };
+    ghost view = { λ board. record {
+      id = board.table.shared.table_id;
+      size = board.table.shared.key;
+    } };
 
-    ghost invariant = { λ board. (board.table.shared.table_id.words ≡ 1) × (board.table.shared.table_id.slots ≡ 0) × (board.targets ≡ board.table.shared.key.targets) };
+    ghost invariant = { λ board. (board.table.shared.table_id.words ≡ 1)
+        × (board.table.shared.table_id.slots ≡ 0)
+        × (board.targets ≡ board.table.shared.key.targets) };
 }
 
-/// What the seats of a board drew: each number below the count of targets once, with the number of the seat that drew it. It has no
-/// bytes: contracts alone read it.
+/// What the seats of a board drew: each number below the count of targets once, with the number of
+/// the seat that drew it. It has no bytes: contracts alone read it.
 #[derive(Drop)]
 pub struct Drawn {
     place: Snapshot<Seat>,
@@ -49,11 +58,15 @@ impl Model for Drawn {
 }
 
 impl Board {
-    /// A board of so many targets, of which nothing is drawn, and the first of its seats. There are 1 to 64 seats. `AllocError`
-    /// comes only for want of memory; then nothing was made.
+    /// A board of so many targets, of which nothing is drawn, and the first of its seats. There are
+    /// 1 to 64 seats. `AllocError` comes only for want of memory; then nothing was made.
     pub fn new(alloc: Global, targets: u32, seats: u32) -> Result<(Board, Seat), AllocError>
         requires { (1 ≤ seats) × (seats ≤ most_seats) }
-        ensures { IfOk result (λ made. (made.0.size ≡ record { targets = targets; seats = seats }) × (made.1 ≡ record { board = made.0.id; view = first_view (record { targets = targets; seats = seats }) })) }
+        ensures { IfOk result (λ made. (made.0.size ≡ record { targets = targets; seats = seats })
+            × (made.1 ≡ record {
+              board = made.0.id;
+              view = first_view (record { targets = targets; seats = seats });
+            })) }
     {
         let (table, place) = Table::of_words(alloc, &[0], &Size { targets, seats })?;
         let seat = Seat {
@@ -65,11 +78,15 @@ impl Board {
         Ok((Board { table, targets }, seat))
     }
 
-    /// Splits a seat from the first one.
+    /// Splits a seat from the first one, from which at least one more may be split. The new seat
+    /// holds nothing, has the next number, and none is split from it.
     pub fn split(&self, seat: &mut Seat) -> Seat
-        requires seat { IsSeatOf self.now seat.old }
+        requires seat { IsSeatOfBoard self.now seat.old }
         requires may { 0 < seat.old.view.to_split }
-        ensures from { seat.new ≡ record { board = seat.old.board; view = split_from seat.old.view } }
+        ensures from { seat.new ≡ record {
+          board = seat.old.board;
+          view = split_from seat.old.view;
+        } }
         ensures off { result ≡ record { board = seat.old.board; view = split_off seat.old.view } }
     {
         let place = self.table.shared.split_seat::<Splitting>(&mut seat.place);
@@ -83,10 +100,11 @@ impl Board {
         }
     }
 
-    /// Draws the next number: one atomic step. `None` where that number is not one of a target; then the seat is told that there is
-    /// nothing left, and draws no more.
+    /// Draws the next number, by one atomic step. It is above all that the seat holds; if a target
+    /// has it, it is given, and the seat holds it from then on. `None` if that number is not one of
+    /// a target; then the seat knows that there is nothing left, and draws no more.
     pub fn draw(&self, seat: &mut Seat) -> Option<u32>
-        requires seat { IsSeatOf self.now seat.old }
+        requires seat { IsSeatOfBoard self.now seat.old }
         requires untold { seat.old.view.nones ≡ 0 }
         ensures { Draws seat.old seat.new result }
     {
@@ -101,11 +119,15 @@ impl Board {
         None
     }
 
-    /// Joins a seat into the first one, which takes over what the other holds and what it was told.
+    /// Joins a seat into the first one, which takes over what the other holds and what it knows of
+    /// the end.
     pub fn join(&self, into: &mut Seat, from: Seat)
-        requires seats { IsSeatOf self.now into.old × IsSeatOf self.now from }
+        requires seats { IsSeatOfBoard self.now into.old × IsSeatOfBoard self.now from }
         requires out { 0 < into.old.view.out }
-        ensures { into.new ≡ record { board = into.old.board; view = joined_with into.old.view from.view } }
+        ensures { into.new ≡ record {
+          board = into.old.board;
+          view = joined_with into.old.view from.view;
+        } }
     {
         let Seat { place, told, .. } = from;
         self.table
@@ -115,10 +137,10 @@ impl Board {
         into.told |= told;
     }
 
-    /// Ends a board, when all seats are joined into the first one and it was told that there is nothing left: what it holds is what was
-    /// drawn, each number of a target once.
+    /// Closes a board when all seats are joined into the first one and it knows that there is
+    /// nothing left: what it holds is what was drawn, each number of a target once.
     pub fn close(self, seat: Seat) -> Drawn
-        requires seat { IsSeatOf self seat }
+        requires seat { IsSeatOfBoard self seat }
         requires first { seat.view.drawer ≡ 0 }
         requires out { seat.view.out ≡ 0 }
         requires told { 0 < seat.view.nones }

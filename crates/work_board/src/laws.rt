@@ -3,6 +3,6 @@
 ghost use Rattle.work_board.specs.BoardRule.{HistoriesKeepTheRule};
 
 /// Every history of a board, of any steps in any order, keeps its rule.
-pub fn histories_keep_the_rule()
+pub fn law_histories_keep_the_rule()
     ensures { HistoriesKeepTheRule }
 {}

@@ -1,5 +1,5 @@
-//! A board of numbered targets that several workers draw from: each number is drawn once, by one atomic step. A worker holds a seat, and
-//! nobody waits for anybody.
+//! A board of numbered targets that several workers draw from: each number is drawn once, by one
+//! atomic step. Each worker owns a seat, and none waits for another.
 #![tactic(auto)]
 
 mod board;

@@ -1,17 +1,17 @@
-//! The rule under which the table of a board stands, and what its steps tell.
+//! The rule under which the table of a board stands, and what its steps make of the seats.
 
 use crate::view::{Size, Standing};
 use atomic_table::{Join, Play, Split, TableRule};
 
-/// A history of the board led to what the table contains.
+/// What the table contains is reached by a history of the board.
 pub(crate) struct Histories;
 
 impl TableRule<(), Standing, Size> for Histories {
-    ghost use Rattle.work_board.specs.Steps.{IsLed};
+    ghost use Rattle.work_board.specs.Steps.{IsReachedBy};
     ghost use Rattle.work_board.specs.Views.{first_view};
     ghost use Rattle.work_board.specs.declared.view.Standing.TheVariants.{Live};
 
-    ghost holds = { IsLed };
+    ghost holds = { IsReachedBy };
 
     ghost first = { λ size. Live (first_view size) };
 }

@@ -1,3 +1,5 @@
+//! A seat at a board.
+
 ghost use Rattle.std.specs.Prelude.{◌≡◌, ◌==◌, not};
 
 use crate::view::Standing;
@@ -13,16 +15,16 @@ pub struct Seat {
 }
 
 impl Model for Seat {
-    ghost use Rattle.work_board.specs.Boards.{SeatSeen};
-    ghost use Rattle.work_board.specs.Seats.{seat_code, seen_at, IsSeated};
+    ghost use Rattle.work_board.specs.Boards.{BoardSeatSeen};
+    ghost use Rattle.work_board.specs.Seats.{seat_code, seen_at, IsSeatedAtBoard};
 
-    ghost Value = { SeatSeen };
+    ghost Value = { BoardSeatSeen };
 
     ghost coded = { seat_code };
 
     ghost view = { λ seat. seen_at seat.place };
 
-    ghost invariant = { λ seat. IsSeated seat.place seat.to_split seat.out seat.told };
+    ghost invariant = { λ seat. IsSeatedAtBoard seat.place seat.to_split seat.out seat.told };
 }
 
 impl Seat {
@@ -40,7 +42,7 @@ impl Seat {
         self.out
     }
 
-    /// Whether it, or a seat that was joined into it, was told that there is nothing left.
+    /// Whether it, or a seat that was joined into it, drew when there was nothing left.
     pub fn told(&self) -> bool
         ensures { result ≡ not (self.now.view.nones == 0) }
     {

@@ -1,4 +1,5 @@
-//! What is known of a board and of its seats. Values of `View` and `Standing` stand in contracts alone: none is made.
+//! What is known of a board and of its seats. Values of `View` and `Standing` stand in contracts
+//! alone: none is made.
 
 /// How many targets a board has, and how many seats there can be at it.
 #[derive(Clone, Copy, Debug)]
@@ -20,10 +21,10 @@ pub struct View {
     pub targets: u32,
     /// The number of the seat among those of its board; that of the first is 0.
     pub drawer: u32,
-    /// What the seat holds: what it drew, and what the seats held that were joined into it. A clause reads an array as a list, of any
-    /// length.
+    /// What the seat holds: what it drew, and what the seats held that were joined into it. A
+    /// clause reads an array as a list, of any length.
     pub held: [Draw; 0],
-    /// How often the seat, or a seat that was joined into it, was told that there is nothing left.
+    /// How often the seat, or a seat that was joined into it, drew when there was nothing left.
     pub nones: u32,
     /// How many seats were split from it and are not joined yet.
     pub out: u32,

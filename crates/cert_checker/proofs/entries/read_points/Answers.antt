@@ -3,7 +3,7 @@ use Rattle.std.proofs.lemmas.List.{take_all}
 use Rattle.net_model.specs.declared.ids.PointId.{PointId}
 use Rattle.cert_checker.specs.TableRefusals.{ReadsEach}
 use Rattle.cert_checker.specs.Tables.{point_passes}
-use Rattle.cert_checker.proofs.EndingLemmas.{fault_at, says_next}
+use Rattle.cert_checker.proofs.TestOutcomeLemmas.{fault_at, says_next}
 use Rattle.cert_checker.proofs.entries.read_points.Goals as goal
 
 pub returns-in-Err : goal.returns-in-Err
@@ -12,7 +12,8 @@ returns-in-Err c =
     record {
       place = c.loop-index.index;
       number = omega arith;
-      fault = fault_at (point_passes c.args.net.now) c.args.order.now c.loop-index.points.items c.loop-index.index c.index-order-index.result c.in-Err.why c.loop-index-test.true (ap (point_passes c.args.net.now) (sym c.index-order-index.is) ∙ refused) c.loop-index.invariant;
+      fault = fault_at (point_passes c.args.net.now) c.args.order.now c.loop-index.points.items c.loop-index.index c.index-order-index.result c.in-Err.why c.loop-index-test.true
+          (ap (point_passes c.args.net.now) (sym c.index-order-index.is) ∙ refused) c.loop-index.invariant;
     }
 
 pub loop-index-preserved : goal.loop-index-preserved

@@ -1,6 +1,6 @@
 use Rattle.std.proofs.Common.{◌≡◌, ap, ◌∙◌}
 use Rattle.cert_format.specs.CertificateWords.{printed_certificate}
-use Rattle.cert_format.specs.CertificateText.{certificate_text}
+use Rattle.cert_format.specs.CertificateFormat.{certificate_text}
 use Rattle.cert_format.specs.declared.certificate.Certificate.TheVariants.{TableProof}
 use Rattle.cert_format.proofs.PrintLemmas.{printed_table}
 use Rattle.cert_format.proofs.RoundTripLemmas.{printed_read}

@@ -1,6 +1,6 @@
 use Rattle.std.proofs.Common.{◌≡◌, ◌++◌, take, All}
 use Rattle.std.specs.List.{flat_map}
-use Rattle.texts.specs.Printing.{printed_line}
+use Rattle.texts.specs.PrintedLines.{printed_line}
 use Rattle.cert_format.specs.CertificateWords.{entry_words, IsSpelledEntry}
 use Rattle.cert_format.proofs.print.push_entries.Given as goal
 

@@ -1,6 +1,6 @@
 use Rattle.std.proofs.Common.{◌≡◌, ◌++◌, take, All, IsTrue}
 use Rattle.std.specs.List.{flat_map}
-use Rattle.texts.specs.Printing.{printed_line}
+use Rattle.texts.specs.PrintedLines.{printed_line}
 use Rattle.net_model.specs.Names.{is_name}
 use Rattle.cert_format.specs.CertificateWords.{order_words}
 use Rattle.cert_format.proofs.print.push_order.Given as goal

@@ -1,7 +1,7 @@
 use Rattle.std.proofs.Common.{List, ℕ, ◌++◌, get_or, ap, ◌∙◌}
 use Rattle.std.specs.List.{flat_map}
 use Rattle.std.proofs.lemmas.List.{take_all, get_or_default}
-use Rattle.texts.specs.Printing.{printed_line}
+use Rattle.texts.specs.PrintedLines.{printed_line}
 use Rattle.cert_format.specs.CertificateWords.{walk_words}
 use Rattle.cert_format.proofs.PrintLemmas.{written_more}
 use Rattle.cert_format.proofs.print.push_walk.Goals as goal

@@ -14,5 +14,9 @@ text_is c =
 pub returns : goal.returns
 returns c = record {
   text = text_is c;
-  back = ap strong_text (text_is c) ∙ printed_read c.args.cert.now (record { of_one_kind = c.requires.of_one_kind; by = subst (All IsSpelledBy) c.as_slice-2.ensures c.in_ok-push_by.ensures.spelled; ring = subst (All (λ (point : List ℕ). IsTrue (is_name point))) c.as_slice-3.ensures c.in_ok-push_ring.ensures.spelled });
+  back = ap strong_text (text_is c) ∙ printed_read c.args.cert.now (record {
+    of_one_kind = c.requires.of_one_kind;
+    by = subst (All IsSpelledBy) c.as_slice-2.ensures c.in_ok-push_by.ensures.spelled;
+    ring = subst (All (λ (point : List ℕ). IsTrue (is_name point))) c.as_slice-3.ensures c.in_ok-push_ring.ensures.spelled;
+  });
 }

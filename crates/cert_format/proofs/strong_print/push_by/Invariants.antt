@@ -1,6 +1,6 @@
 use Rattle.std.proofs.Common.{◌≡◌, ◌++◌, take, All}
 use Rattle.std.specs.List.{flat_map}
-use Rattle.texts.specs.Printing.{printed_line}
+use Rattle.texts.specs.PrintedLines.{printed_line}
 use Rattle.cert_format.specs.StrongWords.{by_words, IsSpelledBy}
 use Rattle.cert_format.proofs.strong_print.push_by.Given as goal
 

@@ -1,7 +1,7 @@
 use Rattle.std.proofs.Common.{rules, List, ℕ, IsTrue}
 use Rattle.std.proofs.lemmas.List.Elements.{All-more}
 use Rattle.net_model.specs.Names.{is_name}
-use Rattle.texts.specs.Printing.{printed_line}
+use Rattle.texts.specs.PrintedLines.{printed_line}
 use Rattle.cert_format.specs.StrongWords.{ring_words}
 use Rattle.cert_format.proofs.PrintLemmas.{written_more}
 use Rattle.cert_format.proofs.strong_print.push_ring.Goals as goal

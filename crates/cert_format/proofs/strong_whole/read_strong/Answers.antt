@@ -2,7 +2,7 @@ use Rattle.std.proofs.Common.{subst, Result}
 use Rattle.net_model.specs.declared.format.FormatFault.{FormatFault}
 use Rattle.cert_format.specs.StrongReading.{SaysStrongText}
 use Rattle.cert_format.specs.declared.strong_cert.StrongCert.{StrongCert}
-use Rattle.cert_format.proofs.StrongFrontLemmas.{grammar_read}
+use Rattle.cert_format.proofs.StrongPrefixLemmas.{grammar_read}
 use Rattle.cert_format.proofs.StrongReadingLemmas.{answer_is_text, answer_weights, answer_fault}
 use Rattle.cert_format.proofs.StrongOnceLemmas.{answer_every_fault}
 use Rattle.cert_format.proofs.strong_whole.read_strong.Goals as goal

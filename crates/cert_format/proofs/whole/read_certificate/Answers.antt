@@ -1,9 +1,9 @@
 use Rattle.std.proofs.Common.{subst, Result}
 use Rattle.net_model.specs.declared.format.FormatFault.{FormatFault}
-use Rattle.cert_format.specs.CertificateText.{SaysText}
+use Rattle.cert_format.specs.CertificateFormat.{SaysText}
 use Rattle.cert_format.specs.declared.certificate.Certificate.{Certificate}
-use Rattle.cert_format.proofs.FrontLemmas.{grammar_read}
-use Rattle.cert_format.proofs.ReadingLemmas.{answer_is_text, answer_weights, answer_fault}
+use Rattle.cert_format.proofs.PrefixLemmas.{grammar_read}
+use Rattle.cert_format.proofs.ReadLineLemmas.{answer_is_text, answer_weights, answer_fault}
 use Rattle.cert_format.proofs.OnceLemmas.{answer_every_fault}
 use Rattle.cert_format.proofs.whole.read_certificate.Goals as goal
 

@@ -1,6 +1,6 @@
 use Rattle.std.proofs.Common.{◌≡◌, ◌+◌, ◌≤◌, length}
 use Rattle.texts.specs.Lines.{lines}
-use Rattle.cert_format.specs.CertificateText.{certificate_part, read_from, certificate_text}
+use Rattle.cert_format.specs.CertificateFormat.{certificate_part, read_from, certificate_text}
 use Rattle.cert_format.proofs.whole.read_lines.Given as goal
 
 abbrev pub invariant-loop-line : goal.invariant-loop-line

@@ -4,7 +4,7 @@ use Rattle.std.specs.List.{slice_index_or}
 use Rattle.std.proofs.lemmas.List.{at_drop_more}
 use Rattle.clap.specs.Words.{App, Rule, app_of, with_rule}
 use Rattle.command_words.specs.Syntax.{Text}
-use Rattle.command_words.specs.ClapRules.{rule_for}
+use Rattle.command_words.specs.ClapRules.{clap_rule_for}
 use Rattle.command_words.proofs.command.with_names.Goals as goal
 
 module _ (rule : Text → Rule) where
@@ -23,8 +23,8 @@ module _ (rule : Text → Rule) where
 pub loop-name-preserved : goal.loop-name-preserved
 loop-name-preserved c =
     let grown = c.in_ok-command.ensures.shape c.argument.ensures.local in
-    one_more (rule_for c.args.kind) c.args.names.now c.loop-name.name-index _ (app_of c.loop-name.command) (app_of c.in_ok-command.command) _ c.loop-name-test.true c.argument.ensures.rule grown
+    one_more (clap_rule_for c.args.kind) c.args.names.now c.loop-name.name-index _ (app_of c.loop-name.command) (app_of c.in_ok-command.command) _ c.loop-name-test.true c.argument.ensures.rule grown
     ∙ c.loop-name.invariant
 
 pub returns : goal.returns
-returns c = at_the_end (rule_for c.args.kind) c.args.names.now c.loop-name.name-index (app_of c.loop-name.command) _ c.loop-name-test.false c.loop-name.invariant
+returns c = at_the_end (clap_rule_for c.args.kind) c.args.names.now c.loop-name.name-index (app_of c.loop-name.command) _ c.loop-name-test.false c.loop-name.invariant

@@ -1,6 +1,6 @@
 use Rattle.std.proofs.Common.{◌∙◌, ap, arith, length}
 use Rattle.closure_model.specs.Derivations.{bound_node}
-use Rattle.closure_model.proofs.Numbered.{pushed_more, pushed_all}
+use Rattle.closure_model.proofs.NumberedItems.{pushed_more, pushed_all}
 use Rattle.derivation_dag.proofs.plain.push_bounds.Goals as goal
 
 pub loop-place-preserved : goal.loop-place-preserved

@@ -10,7 +10,8 @@ use Rattle.dispatch_net.proofs.dispatch.conditions_by.Goals as goal
 
 pub loop-point-preserved : goal.loop-point-preserved
 loop-point-preserved c =
-    conditions_pushed (conditions_in c.args.net.now c.args.table.now) c.loop-point.point c.loop-point.conditions.items c.push.new.self.items c.in_ok-conditions_of.field-0 c.loop-point.invariant c.in_ok-push.ensures.items c.in_ok-conditions_of.ensures
+    conditions_pushed (conditions_in c.args.net.now c.args.table.now) c.loop-point.point c.loop-point.conditions.items c.push.new.self.items c.in_ok-conditions_of.field-0 c.loop-point.invariant c.in_ok-push.ensures.items
+    c.in_ok-conditions_of.ensures
 
 -- what was made, once every point was passed
 made : (net : Plan) (table : Graph) (conditions : List Conditions) (k : ℕ) → k ≡ table.shape.points → conditions ≡ map (conditions_in net table) (map (λ n. record { 0 = n }) (range_with_len 0 k)) → conditions ≡ dispatchable net table

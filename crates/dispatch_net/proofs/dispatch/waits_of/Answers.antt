@@ -11,7 +11,8 @@ push_wait-requires c =
     let link = c.loop-link.link in
     let none : PointId = record { 0 = 0 } in
     let inside : link < length begins = omega (arith, link_count c.args.net.now c.args.table.now c.requires.network, ap length c.links.ensures.links) in
-    weight_held c.args.table.now c.upper-weight.ensures.sound (labelled_key c.args.point (get_or begins link none) (record { 0 = link })) c.upper-weight.result (c.upper-weight.ensures.weight (get_or begins link none) (slice_get-get_or begins link none inside))
+    weight_held c.args.table.now c.upper-weight.ensures.sound (labelled_key c.args.point (get_or begins link none) (record { 0 = link })) c.upper-weight.result
+    (c.upper-weight.ensures.weight (get_or begins link none) (slice_get-get_or begins link none inside))
 
 pub loop-link-preserved : goal.loop-link-preserved
 loop-link-preserved c =
@@ -19,4 +20,5 @@ loop-link-preserved c =
     let link = c.loop-link.link in
     let none : PointId = record { 0 = 0 } in
     let inside : link < length begins = omega (arith, link_count c.args.net.now c.args.table.now c.requires.network, ap length c.links.ensures.links) in
-    wait_pushed c.args.table.now c.args.point link none c.loop-link.waits.items c.push_wait.new.waits.items c.upper-weight.result inside c.loop-link.invariant c.in_ok-push_wait.ensures (c.upper-weight.ensures.weight (get_or begins link none) (slice_get-get_or begins link none inside))
+    wait_pushed c.args.table.now c.args.point link none c.loop-link.waits.items c.push_wait.new.waits.items c.upper-weight.result inside c.loop-link.invariant c.in_ok-push_wait.ensures
+    (c.upper-weight.ensures.weight (get_or begins link none) (slice_get-get_or begins link none inside))

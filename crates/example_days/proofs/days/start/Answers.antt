@@ -1,9 +1,9 @@
 -- What a session gives is a dispatchable network of the closure, and so is what no others imply of it.
 use Rattle.std.proofs.Common.{List, ◌∙◌, ap}
 use Rattle.dispatch_net.specs.declared.dispatch.Conditions.{Conditions}
-use Rattle.dispatch_net.proofs.EarliestLemmas.{closures_may_dispatch}
-use Rattle.execution_model.specs.Feeding.{started}
-use Rattle.execution_model.proofs.GraphLemmas.{closures_are_graphs}
+use Rattle.dispatch_net.proofs.EarliestLemmas.{law_closures_may_dispatch}
+use Rattle.execution_model.specs.Feeds.{started}
+use Rattle.execution_model.proofs.GraphLemmas.{law_closures_are_graphs}
 use Rattle.example_days.proofs.days.start.Goals as goal
 
 pub start-requires : goal.start-requires
@@ -13,8 +13,8 @@ start-requires c =
       instant = record { sound = c.sound.ensures; no_delay = c.requires.no_delay };
       table = is.table;
       order = is.order;
-      graph = closures_are_graphs c.args.net.now is.table c.sound.ensures is.closure;
-      may = closures_may_dispatch c.args.net.now is.table is.order c.sound.ensures is.closure is.ordered;
+      graph = law_closures_are_graphs c.args.net.now is.table c.sound.ensures is.closure;
+      may = law_closures_may_dispatch c.args.net.now is.table is.order c.sound.ensures is.closure is.ordered;
       links = c.slim.ensures.links ∙ is.by.links;
       made = c.slim.ensures.made ∙ is.by.made;
     }
@@ -26,7 +26,7 @@ returns c =
       table = is.table;
       order = is.order;
       by_closure = record { instant = record { sound = c.sound.ensures; no_delay = c.requires.no_delay }; closure = is.closure; ordered = is.ordered };
-      fresh =
+      unused =
           c.in_ok-start.ensures
           ∙ ap (λ (made : List Conditions). started (record { links = c.args.net.now.links; dispatch = made })) (c.slim.ensures.made ∙ is.by.made);
     }

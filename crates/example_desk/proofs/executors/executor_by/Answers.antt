@@ -2,8 +2,8 @@
 use Rattle.std.proofs.Common.{List, sym, subst}
 use Rattle.net_model.specs.declared.ids.PointId.{PointId}
 use Rattle.dispatch_net.specs.Dispatchable.{MayDispatch}
-use Rattle.dispatch_net.proofs.EarliestLemmas.{closures_may_dispatch}
-use Rattle.execution_model.proofs.GraphLemmas.{closures_are_graphs}
+use Rattle.dispatch_net.proofs.EarliestLemmas.{law_closures_may_dispatch}
+use Rattle.execution_model.proofs.GraphLemmas.{law_closures_are_graphs}
 use Rattle.example_desk.proofs.executors.executor_by.Goals as goal
 
 pub of-requires-clause-may : goal.of-requires-clause-may
@@ -11,7 +11,7 @@ of-requires-clause-may c =
     let net = c.args.net.now in
     let closed = c.args.closed.now in
     let by = c.requires.closed in
-    subst (λ (o : List PointId). MayDispatch net closed.table o) (sym c.as_slice.ensures) (closures_may_dispatch net closed.table closed.order c.sound.ensures by.closure by.order)
+    subst (λ (o : List PointId). MayDispatch net closed.table o) (sym c.as_slice.ensures) (law_closures_may_dispatch net closed.table closed.order c.sound.ensures by.closure by.order)
 
 pub start-requires : goal.start-requires
 start-requires c =
@@ -23,8 +23,8 @@ start-requires c =
       instant = record { sound = sound; no_delay = c.requires.no_delay };
       table = closed.table;
       order = closed.order;
-      graph = closures_are_graphs net closed.table sound by.closure;
-      may = closures_may_dispatch net closed.table closed.order sound by.closure by.order;
+      graph = law_closures_are_graphs net closed.table sound by.closure;
+      may = law_closures_may_dispatch net closed.table closed.order sound by.closure by.order;
       links = c.in_ok-dispatch.ensures.dispatchable.links;
       made = c.in_ok-dispatch.ensures.dispatchable.made;
     }

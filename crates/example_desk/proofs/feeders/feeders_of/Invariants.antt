@@ -1,13 +1,13 @@
 use Rattle.std.proofs.Common.{◌<◌, ◌+◌, length}
 use Rattle.std.specs.List.{All}
-use Rattle.sensor_desk.specs.Desks.{IsSeatOf}
+use Rattle.sensor_desk.specs.Desks.{IsSeatOfDesk}
 use Rattle.sensor_desk.specs.declared.feeder.Feeder.{Feeder}
 use Rattle.example_desk.proofs.feeders.feeders_of.Given as goal
 
 abbrev pub invariant-loop-seat : goal.invariant-loop-seat
 invariant-loop-seat l = record {
-  seats : All (λ (feeder : Feeder). IsSeatOf l.desk feeder.seat) l.feeders.items;
-  seat : IsSeatOf l.desk l.seat;
+  seats : All (λ (feeder : Feeder). IsSeatOfDesk l.desk feeder.seat) l.feeders.items;
+  seat : IsSeatOfDesk l.desk l.seat;
   some : 0 < length l.feeders.items + l.seat.view.to_split;
 }
 

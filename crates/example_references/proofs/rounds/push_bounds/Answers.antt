@@ -2,7 +2,7 @@ use Rattle.std.proofs.Common.{◌≡◌, ◌∙◌, ap, arith, length}
 use Rattle.closure_model.specs.Derivations.{bound_node}
 use Rattle.closure_model.specs.declared.derivation.Node.{Node}
 use Rattle.closure_model.specs.declared.derivation.Rule.TheVariants as by_rule
-use Rattle.closure_model.proofs.Numbered.{pushed_more, pushed_all}
+use Rattle.closure_model.proofs.NumberedItems.{pushed_more, pushed_all}
 use Rattle.example_references.proofs.rounds.push_bounds.Goals as goal
 
 pub loop-place-preserved : goal.loop-place-preserved

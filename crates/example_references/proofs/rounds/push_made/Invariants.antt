@@ -1,7 +1,7 @@
 use Rattle.std.proofs.Common.{◌≡◌, fold, take}
 use Rattle.net_model.specs.Network.{Plan}
 use Rattle.closure_model.specs.ReferenceRound.{with_one}
-use Rattle.example_references.specs.Listed.{support_in}
+use Rattle.example_references.specs.NodeTables.{support_in}
 use Rattle.example_references.proofs.rounds.push_made.Given as goal
 
 abbrev pub invariant-loop-one : goal.invariant-loop-one

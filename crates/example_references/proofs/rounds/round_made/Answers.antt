@@ -2,13 +2,13 @@
 use Rattle.std.proofs.Common.{List, ◌++◌, ap, ◌∙◌, arith}
 use Rattle.closure_model.specs.ReferenceRow.{reference_row}
 use Rattle.closure_model.specs.declared.rows.Made.{Made}
-use Rattle.example_references.specs.Listed.{table_in}
-use Rattle.example_references.proofs.NodeFacts.{points_told}
+use Rattle.example_references.specs.NodeTables.{table_in}
+use Rattle.example_references.proofs.NodeFacts.{points_agree}
 use Rattle.example_references.proofs.RowFacts.{flat_more}
 use Rattle.example_references.proofs.rounds.round_made.Goals as goal
 
 pub row-requires : goal.row-requires
-row-requires c = omega (arith, c.points-count.ensures c.args.nodes.now, points_told c.args.net.now c.args.nodes.now)
+row-requires c = omega (arith, c.points-count.ensures c.args.nodes.now, points_agree c.args.net.now c.args.nodes.now)
 
 pub loop-target-preserved : goal.loop-target-preserved
 loop-target-preserved c =

@@ -1,4 +1,4 @@
-use Rattle.example_references.specs.Listed.{support_in}
+use Rattle.example_references.specs.NodeTables.{support_in}
 use Rattle.example_references.proofs.RoundFacts.{GoesOn}
 use Rattle.example_references.proofs.rounds.rounds.Given as goal
 

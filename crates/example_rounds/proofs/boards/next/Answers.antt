@@ -1,4 +1,4 @@
--- A seat that was told draws nothing; else the draw keeps all else.
+-- A seat that found nothing left draws nothing; else the draw keeps all else.
 use Rattle.example_rounds.proofs.SeatLemmas.{draws_same}
 use Rattle.example_rounds.proofs.boards.next.Goals as goal
 

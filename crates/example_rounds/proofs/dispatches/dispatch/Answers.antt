@@ -1,6 +1,6 @@
 use Rattle.std.proofs.Common.{sym, subst}
 use Rattle.closure_model.specs.Tables.{Graph}
-use Rattle.dispatch_net.proofs.EarliestLemmas.{closures_may_dispatch}
+use Rattle.dispatch_net.proofs.EarliestLemmas.{law_closures_may_dispatch}
 use Rattle.dispatch_net.specs.Dispatchable.{MayDispatch}
 use Rattle.net_model.specs.declared.ids.PointId.{PointId}
 use Rattle.std.specs.Prelude.{List}
@@ -16,4 +16,4 @@ of-requires-2-clause-may g c =
     let order = c.in-Closed.order in
     let says : OutcomeHolds net after (Closed c.in-Closed.rounds order) = subst (OutcomeHolds net after) c.in-Closed.is c.in_ok-order.ensures.says in
     subst (λ (o : List PointId). MayDispatch net c.table.result.now o) (sym c.as_slice.ensures)
-    (subst (λ (t : Graph). MayDispatch net t order) (sym c.table.ensures) (closures_may_dispatch net after.table order c.points-points.ensures.sound says.0 says.1))
+    (subst (λ (t : Graph). MayDispatch net t order) (sym c.table.ensures) (law_closures_may_dispatch net after.table order c.points-points.ensures.sound says.0 says.1))

@@ -3,11 +3,11 @@ use Rattle.std.specs.List.{All}
 use Rattle.net_model.specs.Network.{Plan, IsPoint}
 use Rattle.net_model.specs.declared.ids.PointId.{PointId}
 use Rattle.event_stream.specs.EventText.{completed}
-use Rattle.event_execution.specs.Executing.{answer_room, FeedsAmong, PutsFed}
+use Rattle.event_phase.specs.EventPhase.{answer_capacity, FeedsAmong, PutsFed}
 use Rattle.plan_fleet.specs.FleetPlans.{FleetPlan}
 use Rattle.plan_fleet.specs.Fleets.{ChangesOne}
-use Rattle.fleet_command.specs.FleetStands.{SaysTold}
-use Rattle.fleet_command.proofs.TellingLemmas.{FedAt, at_here, fed_among, fed_at, fed_changes, fed_net}
+use Rattle.fleet_command.specs.FleetStands.{SaysReported}
+use Rattle.fleet_command.proofs.ReportedLineLemmas.{FedAt, at_here, fed_among, fed_at, fed_changes, fed_net}
 use Rattle.fleet_command.proofs.own_lines.feed_plan.Goals as goal
 
 pub put_fed-requires-clause-points : goal.put_fed-requires-clause-points
@@ -37,7 +37,7 @@ returns-clause-changes c =
     ∙ fed_net fleet after place c.args.moment listed c.in-Fed.fed at c.network.ensures.sound c.network-net.ensures.sound c.acts.result.now c.acts.ensures.value in
     let puts : PutsFed at.old.net c.args.number c.in-Fed.fed c.acts.result.now c.next_due.result c.put_fed.new.answer.text c.put_fed.result =
     subst (λ (n : Plan). PutsFed n c.args.number c.in-Fed.fed c.acts.result.now c.next_due.result c.put_fed.new.answer.text c.put_fed.result) net_is c.put_fed.ensures.answers in
-    subst (λ (l : List PointId). ChangesOne fleet place (SaysTold c.args.number (completed c.args.moment l) c.put_fed.new.answer.text) after) c.completions.ensures.points
+    subst (λ (l : List PointId). ChangesOne fleet place (SaysReported c.args.number (completed c.args.moment l) c.put_fed.new.answer.text) after) c.completions.ensures.points
     (fed_changes fleet after place c.args.moment listed c.in-Fed.fed at c.network.ensures.sound c.network-net.ensures.sound c.acts.result.now c.acts.ensures.value c.args.number c.next_due.result
     c.put_fed.new.answer.text c.put_fed.result c.next_due.ensures puts)
 
@@ -51,4 +51,4 @@ returns-clause-size c =
     let net_is : c.network-net.result.now ≡ at.old.net =
     at_here (λ (p : FleetPlan). c.network-net.result.now ≡ p.net) after place at.new c.network-net.ensures.value at.there
     ∙ fed_net fleet after place c.args.moment listed c.in-Fed.fed at c.network.ensures.sound c.network-net.ensures.sound c.acts.result.now c.acts.ensures.value in
-    (at.old, at.was, subst (λ (n : Plan). length c.put_fed.new.answer.text ≤ answer_room n) net_is c.put_fed.ensures.size)
+    (at.old, at.was, subst (λ (n : Plan). length c.put_fed.new.answer.text ≤ answer_capacity n) net_is c.put_fed.ensures.size)

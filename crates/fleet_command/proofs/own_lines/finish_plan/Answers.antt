@@ -1,9 +1,9 @@
 use Rattle.std.proofs.Common.{◌≡◌, ◌≤◌, length, sym, ◌∙◌, subst}
 use Rattle.net_model.specs.Network.{Plan}
-use Rattle.command_engine.specs.declared.machines.Onward.TheVariants.{Ends}
-use Rattle.event_execution.specs.Executing.{AnswersEnd, answer_room, EndsAmong}
+use Rattle.command_engine.specs.declared.machines.Flow.TheVariants.{Finish}
+use Rattle.event_phase.specs.EventPhase.{AnswersEnd, answer_capacity, EndsAmong}
 use Rattle.plan_fleet.specs.FleetPlans.{FleetPlan}
-use Rattle.fleet_command.proofs.TellingLemmas.{FinishedAt, at_here, finished_among, finished_at, finished_changes, finished_net}
+use Rattle.fleet_command.proofs.ReportedLineLemmas.{FinishedAt, at_here, finished_among, finished_at, finished_changes, finished_net}
 use Rattle.fleet_command.proofs.own_lines.finish_plan.Goals as goal
 
 pub put_end-requires-clause-points : goal.put_end-requires-clause-points
@@ -27,8 +27,8 @@ returns-clause-changes c =
     let net_is : c.network-net.result.now ≡ at.old.net =
     at_here (λ (p : FleetPlan). c.network-net.result.now ≡ p.net) after place at.new c.network-net.ensures.value at.there
     ∙ finished_net fleet after place c.in-Finished.finished at c.network.ensures.sound c.network-net.ensures.sound c.acts.result.now c.acts.ensures.value in
-    let puts : AnswersEnd at.old.net c.args.number c.in-Finished.finished c.acts.result.now c.put_end.new.answer.text (Ends c.put_end.result) =
-    subst (λ (n : Plan). AnswersEnd n c.args.number c.in-Finished.finished c.acts.result.now c.put_end.new.answer.text (Ends c.put_end.result)) net_is c.put_end.ensures.answers in
+    let puts : AnswersEnd at.old.net c.args.number c.in-Finished.finished c.acts.result.now c.put_end.new.answer.text (Finish c.put_end.result) =
+    subst (λ (n : Plan). AnswersEnd n c.args.number c.in-Finished.finished c.acts.result.now c.put_end.new.answer.text (Finish c.put_end.result)) net_is c.put_end.ensures.answers in
     finished_changes fleet after place c.in-Finished.finished at c.network.ensures.sound c.network-net.ensures.sound c.acts.result.now c.acts.ensures.value c.args.number c.put_end.new.answer.text c.put_end.result puts
 
 pub returns-clause-size : goal.returns-clause-size
@@ -40,4 +40,4 @@ returns-clause-size c =
     let net_is : c.network-net.result.now ≡ at.old.net =
     at_here (λ (p : FleetPlan). c.network-net.result.now ≡ p.net) after place at.new c.network-net.ensures.value at.there
     ∙ finished_net fleet after place c.in-Finished.finished at c.network.ensures.sound c.network-net.ensures.sound c.acts.result.now c.acts.ensures.value in
-    (at.old, at.was, subst (λ (n : Plan). length c.put_end.new.answer.text ≤ answer_room n) net_is c.put_end.ensures.size)
+    (at.old, at.was, subst (λ (n : Plan). length c.put_end.new.answer.text ≤ answer_capacity n) net_is c.put_end.ensures.size)

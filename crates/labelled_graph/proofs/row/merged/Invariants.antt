@@ -1,6 +1,6 @@
 use Rattle.std.proofs.Common.{take, drop}
 use Rattle.net_model.specs.declared.ids.PointId.{PointId}
-use Rattle.labelled_graph.specs.Merging.{IsMerging}
+use Rattle.labelled_graph.specs.MergedRows.{IsMerging}
 use Rattle.labelled_graph.specs.Rows.{AreRising}
 use Rattle.labelled_graph.proofs.row.merged.Given as goal
 

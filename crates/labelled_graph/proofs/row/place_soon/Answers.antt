@@ -5,10 +5,12 @@ use Rattle.labelled_graph.proofs.SoonLemmas.{soon_found, soon_missed, far_found,
 use Rattle.labelled_graph.proofs.row.place_soon.Goals as goal
 
 pub returns-in-Equal-clause-place : goal.returns-in-Equal-clause-place
-returns-in-Equal-clause-place c to rises = soon_found to c.args.entries.now (key_with to c.args.from c.args.label) c.loop-place.place _ (let inside = c.loop-place-test.true in omega (arith, inside, c.min-near.ensures)) (sym (c.in-Equal.ensures to))
+returns-in-Equal-clause-place c to rises = soon_found to c.args.entries.now (key_with to c.args.from c.args.label) c.loop-place.place _ (let inside = c.loop-place-test.true in
+    omega (arith, inside, c.min-near.ensures)) (sym (c.in-Equal.ensures to))
 
 pub returns-in-Greater-clause-place : goal.returns-in-Greater-clause-place
-returns-in-Greater-clause-place c to rises = soon_missed to c.args.entries.now (key_with to c.args.from c.args.label) c.loop-place.place _ rises (let inside = c.loop-place-test.true in omega (arith, inside, c.min-near.ensures)) (c.loop-place.invariant to) (sym (c.in-Greater.ensures to))
+returns-in-Greater-clause-place c to rises = soon_missed to c.args.entries.now (key_with to c.args.from c.args.label) c.loop-place.place _ rises (let inside = c.loop-place-test.true in
+    omega (arith, inside, c.min-near.ensures)) (c.loop-place.invariant to) (sym (c.in-Greater.ensures to))
 
 pub returns-in-Ok-clause-place : goal.returns-in-Ok-clause-place
 returns-in-Ok-clause-place c to rises =

@@ -1,5 +1,5 @@
 use Rattle.std.proofs.Common.{◌≡◌, take}
-use Rattle.labelled_graph.specs.Merging.{words_set}
+use Rattle.labelled_graph.specs.MergedRows.{words_set}
 use Rattle.labelled_graph.proofs.row.write_words.Given as goal
 
 abbrev pub invariant-loop-entry : goal.invariant-loop-entry

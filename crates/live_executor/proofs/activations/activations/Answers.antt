@@ -1,8 +1,8 @@
 use Rattle.std.proofs.Common.{◌+◌, pos, List, arith, take, sym, subst}
 use Rattle.std.proofs.lemmas.List.{take_all}
 use Rattle.net_model.specs.declared.part.Link.{Link}
-use Rattle.live_executor.specs.Awaited.{AreActivated}
-use Rattle.live_executor.proofs.AwaitedLemmas.{no_links, one_link_more}
+use Rattle.live_executor.specs.ExpectedPoints.{AreActivated}
+use Rattle.live_executor.proofs.ExpectedLemmas.{no_links, one_link_more}
 use Rattle.live_executor.proofs.activations.activations.Goals as goal
 
 pub loop-link-init : goal.loop-link-init

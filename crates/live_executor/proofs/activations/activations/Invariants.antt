@@ -1,5 +1,5 @@
 use Rattle.std.proofs.Common.{take}
-use Rattle.live_executor.specs.Awaited.{AreActivated}
+use Rattle.live_executor.specs.ExpectedPoints.{AreActivated}
 use Rattle.live_executor.proofs.activations.activations.Given as goal
 
 abbrev pub invariant-loop-link : goal.invariant-loop-link

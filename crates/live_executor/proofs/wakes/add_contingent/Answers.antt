@@ -4,8 +4,8 @@ use Rattle.std.specs.Option.{option_map}
 use Rattle.net_model.specs.declared.ids.PointId.{PointId}
 use Rattle.net_model.specs.declared.ids.LinkId.{LinkId}
 use Rattle.net_model.specs.declared.part.Link.{Link}
-use Rattle.live_executor.specs.Wakes.{added, wait_place}
-use Rattle.live_executor.proofs.WakesLemmas.{length-added, gathered_more, got_inside}
+use Rattle.live_executor.specs.Wakes.{added_to_list, wait_place}
+use Rattle.live_executor.proofs.WakesLemmas.{length-added_to_list, gathered_more, got_inside}
 use Rattle.live_executor.proofs.wakes.add_contingent.Goals as goal
 
 pub add-requires : goal.add-requires
@@ -28,7 +28,7 @@ loop-link-preserved c =
     let place : Option PointId = option_map (λ (link : Link). link.to) (slice_get links k) in
     let is : place ≡ Some at = ap (option_map (λ (link : Link). link.to)) (got_inside links k none inside) in
     record {
-      gathered = c.in_ok-add.ensures ∙ (ap (λ (ls : List (List PointId)). added ls at c.args.point) c.loop-link.invariant.gathered
+      gathered = c.in_ok-add.ensures ∙ (ap (λ (ls : List (List PointId)). added_to_list ls at c.args.point) c.loop-link.invariant.gathered
           ∙ sym (gathered_more (wait_place (λ (link : Link). link.to) links) c.args.point c.args.lists.now c.args.waits.now i d at c.loop-link-test.true is));
-      count = ap (λ (ls : List (List PointId)). length ls) c.in_ok-add.ensures ∙ (length-added c.loop-link.lists at c.args.point ∙ c.loop-link.invariant.count);
+      count = ap (λ (ls : List (List PointId)). length ls) c.in_ok-add.ensures ∙ (length-added_to_list c.loop-link.lists at c.args.point ∙ c.loop-link.invariant.count);
     }

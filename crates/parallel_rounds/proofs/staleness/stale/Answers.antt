@@ -12,5 +12,6 @@ loop-point-preserved c =
 
 pub returns : goal.returns
 returns c =
-    stale_are c.args.net.now c.args.table.now c.args.changed.now c.in_ok-marks.marks.items c.loop-point.point c.loop-point.targets.items c.requires.fits (omega (arith, c.loop-point-test.false, c.loop-point.auto, ap length c.points.ensures.points)) (omega (arith, c.in_ok-marks.ensures.count, c.loop-point-test.false, c.loop-point.auto)) c.requires.points c.in_ok-marks.ensures.marks
+    stale_are c.args.net.now c.args.table.now c.args.changed.now c.in_ok-marks.marks.items c.loop-point.point c.loop-point.targets.items c.requires.fits
+    (omega (arith, c.loop-point-test.false, c.loop-point.auto, ap length c.points.ensures.points)) (omega (arith, c.in_ok-marks.ensures.count, c.loop-point-test.false, c.loop-point.auto)) c.requires.points c.in_ok-marks.ensures.marks
     c.loop-point.invariant

@@ -1,5 +1,5 @@
 use Rattle.std.proofs.Common.{arith}
-use Rattle.net_model.specs.Building.{built}
+use Rattle.net_model.specs.BuiltNetwork.{built}
 use Rattle.net_model.proofs.PlaceLemmas.{built_place, refused_is}
 use Rattle.plan_format.proofs.declaration.build.Goals as goal
 

@@ -4,7 +4,7 @@ use Rattle.plan_format.specs.declared.version.PlanStage.TheVariants.{Opened}
 use Rattle.plan_format.specs.PlanLines.{plan_line}
 use Rattle.plan_format.specs.PlanParts.{version_numbered}
 use Rattle.plan_format.proofs.PartLemmas.{read_is, alone_read}
-use Rattle.plan_format.proofs.DepartureLemmas.{told_alone}
+use Rattle.plan_format.proofs.DepartureLemmas.{stated_alone}
 use Rattle.plan_format.proofs.plan_line.read_plan_line.Goals as goal
 
 pub returns-in_err-plan_line-clause-every : goal.returns-in_err-plan_line-clause-every
@@ -31,4 +31,5 @@ returns-clause-every c = λ read is.
 
 pub returns-in_err-plan_line-clause-fault : goal.returns-in_err-plan_line-clause-fault
 returns-in_err-plan_line-clause-fault c =
-    told_alone (version_numbered c.args.version) c.args.line.now c.in_err-plan_line.field-0.0 c.from_residual.result (rw (sym c.numbered.ensures) (sym c.plan_line.ensures ∙ c.in_err-plan_line.was)) c.from_residual.ensures.0 c.from_residual.ensures.1
+    stated_alone (version_numbered c.args.version) c.args.line.now c.in_err-plan_line.field-0.0 c.from_residual.result (rw (sym c.numbered.ensures) (sym c.plan_line.ensures ∙ c.in_err-plan_line.was)) c.from_residual.ensures.0
+    c.from_residual.ensures.1

@@ -1,7 +1,7 @@
 use Rattle.std.proofs.Common.{◌≡◌, List, ℕ, ◌<◌, ◌≤◌, ◌++◌, length, get_or, ap, sym, subst, ◌∙◌}
 use Rattle.std.specs.List.{flat_map}
 use Rattle.std.proofs.lemmas.List.{take_all}
-use Rattle.texts.specs.Printing.{printed_line}
+use Rattle.texts.specs.PrintedLines.{printed_line}
 use Rattle.net_model.specs.Network.{IsBound}
 use Rattle.net_model.specs.NetworkParts.{bound_part}
 use Rattle.net_model.specs.declared.part.Bound.{Bound}

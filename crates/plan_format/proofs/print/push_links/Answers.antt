@@ -1,7 +1,7 @@
 use Rattle.std.proofs.Common.{◌≡◌, List, ℕ, ◌<◌, ◌≤◌, ◌++◌, length, get_or, pos, ap, sym, subst, ◌∙◌}
 use Rattle.std.specs.List.{flat_map}
 use Rattle.std.proofs.lemmas.List.{take_all, get_or_default}
-use Rattle.texts.specs.Printing.{printed_line}
+use Rattle.texts.specs.PrintedLines.{printed_line}
 use Rattle.net_model.specs.Network.{IsLink}
 use Rattle.net_model.specs.NetworkParts.{link_part}
 use Rattle.net_model.specs.declared.part.Link.{Link}
@@ -9,7 +9,7 @@ use Rattle.plan_format.specs.PlanParts.{part_words}
 use Rattle.plan_format.proofs.PrintLemmas.{written_more}
 use Rattle.plan_format.proofs.print.push_links.Goals as goal
 
--- what stands where a list has no link
+-- the default if a list has no link
 abbrev none : Link
 none = record { from = record { 0 = 0 }; low = pos 0; high = pos 0; to = record { 0 = 0 } }
 

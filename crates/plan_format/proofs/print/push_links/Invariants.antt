@@ -1,6 +1,6 @@
 use Rattle.std.proofs.Common.{◌≡◌, ◌++◌, take}
 use Rattle.std.specs.List.{flat_map}
-use Rattle.texts.specs.Printing.{printed_line}
+use Rattle.texts.specs.PrintedLines.{printed_line}
 use Rattle.plan_format.specs.PlanParts.{part_words}
 use Rattle.net_model.specs.NetworkParts.{link_part}
 use Rattle.plan_format.proofs.print.push_links.Given as goal

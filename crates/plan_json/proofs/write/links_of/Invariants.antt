@@ -1,6 +1,6 @@
 use Rattle.std.proofs.Common.{◌≡◌, ◌++◌, map, drop}
 use Rattle.serde_json.specs.View.{view}
-use Rattle.plan_json.specs.Writing.{link_data}
+use Rattle.plan_json.specs.DocumentText.{link_data}
 use Rattle.plan_json.proofs.write.links_of.Given as goal
 
 -- the values so far and those of what is left are those of all

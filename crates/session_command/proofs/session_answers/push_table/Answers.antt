@@ -1,7 +1,7 @@
 use Rattle.dispatch_net.specs.Dispatchable.{conditions_at}
 use Rattle.net_model.specs.declared.ids.PointId.{PointId}
 use Rattle.session_command.specs.SessionAnswers.{conditions_text}
-use Rattle.command_frame.proofs.PointTextLemmas.{points_put}
+use Rattle.command_contracts.proofs.PointTextLemmas.{points_put}
 use Rattle.session_command.proofs.session_answers.push_table.Goals as goal
 
 pub loop-point-preserved : goal.loop-point-preserved

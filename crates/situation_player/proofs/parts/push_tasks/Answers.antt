@@ -3,7 +3,7 @@ use Rattle.situation_player.specs.declared.tasks.Task.{Task}
 use Rattle.situation_player.proofs.PartLemmas.{one_more, none_left}
 use Rattle.situation_player.proofs.parts.push_tasks.Goals as goal
 
--- what stands where a list has no task
+-- the task read past the end of a list
 abbrev none : Task
 none = record { low = 0; high = 0; slack = 0; early = 0; late = 0 }
 

@@ -1,7 +1,7 @@
 use Rattle.std.proofs.Common.{◌∙◌, sym, subst, ap, map}
 use Rattle.strategy_model.specs.Situations.{IsSituation}
 use Rattle.situation_player.specs.Numbered.{shortest_of}
-use Rattle.situation_player.proofs.NumberedLemmas.{numbered_zero, numbers_are_situations}
+use Rattle.situation_player.proofs.NumberedLemmas.{numbered_zero, law_numbers_are_situations}
 use Rattle.situation_player.proofs.situations.shortest.Goals as goal
 
 pub returns-clause-first : goal.returns-clause-first
@@ -10,4 +10,4 @@ returns-clause-first c = c.in_ok-durations.ensures ∙ ap (map shortest_of) c.li
 pub returns-clause-situation : goal.returns-clause-situation
 returns-clause-situation c =
     subst (IsSituation c.args.net.now) (numbered_zero c.args.net.now.links ∙ sym (ap (map shortest_of) c.links.ensures.links) ∙ sym c.in_ok-durations.ensures)
-    (numbers_are_situations c.args.net.now 0 c.links.ensures.sound)
+    (law_numbers_are_situations c.args.net.now 0 c.links.ensures.sound)

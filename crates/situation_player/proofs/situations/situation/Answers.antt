@@ -2,10 +2,10 @@ use Rattle.std.proofs.Common.{pos, ◌∙◌, ap, sym, subst}
 use Rattle.net_model.specs.declared.part.Link.{Link}
 use Rattle.strategy_model.specs.Situations.{IsSituation}
 use Rattle.situation_player.specs.Numbered.{numbered}
-use Rattle.situation_player.proofs.NumberedLemmas.{numbered_more, numbered_past, numbers_are_situations}
+use Rattle.situation_player.proofs.NumberedLemmas.{numbered_more, numbered_past, law_numbers_are_situations}
 use Rattle.situation_player.proofs.situations.situation.Goals as goal
 
--- what stands where a list has no link
+-- the link read past the end of a list
 abbrev none : Link
 none = record { from = record { 0 = 0 }; low = pos 0; high = pos 0; to = record { 0 = 0 } }
 
@@ -27,4 +27,4 @@ returns-clause-situation c =
     subst (IsSituation c.args.net.now)
     (sym (numbered_past links c.loop-link.link-index c.loop-link.rest c.loop-link.durations.items (numbered c.args.number links) c.loop-link-test.false c.loop-link.invariant
     ∙ ap (numbered c.args.number) c.links-links.ensures.links))
-    (numbers_are_situations c.args.net.now c.args.number c.links-links.ensures.sound)
+    (law_numbers_are_situations c.args.net.now c.args.number c.links-links.ensures.sound)

@@ -16,8 +16,11 @@ loop-k-preserved c =
     let size : length c.points-k-end.result.now ≡ length c.args.net.now.points = ap length c.points-k-end.ensures.points in
     let within : c.loop-k.k < length c.args.net.now.points = omega arith in
     let more = made_more c.args.net.now c.args.so_far.now c.loop-k.schedule.items c.loop-k.k c.in-Some.moment within (record { 0 = c.loop-k.k }) refl (sym c.moment_so_far.ensures ∙ c.in-Some.is) in
-    let pushed : c.push.new.self.items ≡ c.loop-k.schedule.items ++ c.in-Some.moment ∷ [] = c.in_ok-push.ensures.items in
-    (omega (arith, ap length pushed, length-append c.loop-k.schedule.items (c.in-Some.moment ∷ []), c.loop-k.invariant.0), c.loop-k.invariant.1 ∙ more ∙ ap (λ (items : List ℕ). option_map (λ (rest : List ℕ). items ++ rest) (all_some (map (moment_so_far c.args.so_far.now) (drop (c.loop-k.k + 1) (points_of c.args.net.now))))) (sym pushed))
+    let pushed : c.push.new.self.items ≡ c.loop-k.schedule.items ++ c.in-Some.moment ∷ [] = c.in_ok-push.ensures.items in (
+      omega (arith, ap length pushed, length-append c.loop-k.schedule.items (c.in-Some.moment ∷ []), c.loop-k.invariant.0),
+      c.loop-k.invariant.1 ∙ more
+          ∙ ap (λ (items : List ℕ). option_map (λ (rest : List ℕ). items ++ rest) (all_some (map (moment_so_far c.args.so_far.now) (drop (c.loop-k.k + 1) (points_of c.args.net.now))))) (sym pushed),
+    )
 
 pub returns-clause-made : goal.returns-clause-made
 returns-clause-made c =

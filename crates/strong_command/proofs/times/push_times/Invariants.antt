@@ -1,5 +1,5 @@
 use Rattle.std.proofs.Common.{◌≡◌, ◌++◌, drop}
-use Rattle.strong_command.specs.Asking.{times_text}
+use Rattle.strong_command.specs.StrongAnswers.{times_text}
 use Rattle.strong_command.proofs.times.push_times.Given as goal
 
 abbrev pub invariant-loop-place : goal.invariant-loop-place

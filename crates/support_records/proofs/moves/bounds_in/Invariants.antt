@@ -1,5 +1,5 @@
 use Rattle.std.proofs.Common.{◌≡◌, map, take}
-use Rattle.derivation_edits.specs.Taken.{bound_in}
+use Rattle.edit_laws.specs.EditNumbers.{bound_in}
 use Rattle.support_records.proofs.moves.bounds_in.Given as goal
 
 abbrev pub invariant-loop-bound : goal.invariant-loop-bound

@@ -1,5 +1,5 @@
 -- One link more.
-use Rattle.derivation_edits.specs.Taken.{link_in}
+use Rattle.edit_laws.specs.EditNumbers.{link_in}
 use Rattle.support_records.proofs.MovesLemmas.{mapped_more}
 use Rattle.support_records.proofs.moves.links_in.Goals as goal
 

@@ -1,5 +1,5 @@
 use Rattle.std.proofs.Common.{◌≡◌, map, take}
-use Rattle.derivation_edits.specs.Taken.{link_in}
+use Rattle.edit_laws.specs.EditNumbers.{link_in}
 use Rattle.support_records.proofs.moves.links_in.Given as goal
 
 abbrev pub invariant-loop-link : goal.invariant-loop-link

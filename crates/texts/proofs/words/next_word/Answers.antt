@@ -9,4 +9,5 @@ returns-then-is_empty c =
 
 pub returns : goal.returns
 returns c =
-    first_word c.args.line.now c.skip_blanks-line.result.now c.end_of_word-end.result c.skip_blanks-line.ensures.words (eqb-false _ 0 (sym c.is_empty.ensures ∙ c.if-is_empty.false)) c.skip_blanks-line.ensures.starts c.end_of_word-end.ensures.found c.end_of_word-end.ensures.words
+    first_word c.args.line.now c.skip_blanks-line.result.now c.end_of_word-end.result c.skip_blanks-line.ensures.words (eqb-false _ 0 (sym c.is_empty.ensures ∙ c.if-is_empty.false)) c.skip_blanks-line.ensures.starts
+    c.end_of_word-end.ensures.found c.end_of_word-end.ensures.words

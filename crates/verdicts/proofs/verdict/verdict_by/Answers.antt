@@ -6,8 +6,8 @@ use Rattle.verdicts.proofs.verdict.verdict_by.Goals as goal
 pub returns-in-Some : goal.returns-in-Some
 returns-in-Some g c =
     let decided = subst (IsDecidedByClosure c.args.shown) c.in-Some.is c.requires.decided in
-    (refl, shown_decides c.controllable_is_shown.ensures c.args.net c.args.shown c.in-Some.closed c.sound.ensures c.requires.as_shown decided)
+    (refl, shown_decides c.law_controllable_is_shown.ensures c.args.net c.args.shown c.in-Some.closed c.sound.ensures c.requires.as_shown decided)
 
 pub refute-requires-clause-never : goal.refute-requires-clause-never
 refute-requires-clause-never g c =
-    λ lifetimes lives. shown_excludes c.controllable_is_shown.ensures c.args.net c.args.shown c.sound.ensures c.requires.as_shown (subst (IsDecidedByClosure c.args.shown) c.in-None.is c.requires.decided)
+    λ lifetimes lives. shown_excludes c.law_controllable_is_shown.ensures c.args.net c.args.shown c.sound.ensures c.requires.as_shown (subst (IsDecidedByClosure c.args.shown) c.in-None.is c.requires.decided)

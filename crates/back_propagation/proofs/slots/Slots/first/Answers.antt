@@ -25,7 +25,8 @@ at_start c =
     }
 
 pub invariant_of-result : goal.invariant_of-result
-invariant_of-result c = start_slim c.args.table.now c.args.target (made (goal.at.invariant_of-result c).After-new) c.first_weights.ensures.sound (subst (λ (n : ℕ). c.args.target.0 < n) c.requires.points c.requires.target) (at_start (goal.at.invariant_of-result c).After-new)
+invariant_of-result c = start_slim c.args.table.now c.args.target (made (goal.at.invariant_of-result c).After-new) c.first_weights.ensures.sound (subst (λ (n : ℕ). c.args.target.0 < n) c.requires.points c.requires.target)
+    (at_start (goal.at.invariant_of-result c).After-new)
 
 pub returns : goal.returns
 returns c = start_view c.args.table.now c.args.target (made (goal.at.returns c).After-new) c.first_weights.ensures.sound (at_start (goal.at.returns c).After-new)

@@ -42,7 +42,8 @@ is_lowered c = record {
   stands =
       (let kept : to_z w32 (of_z w32 c.nearest_word.result) ≡ c.nearest_word.result = search rules in
       subst (λ (w : ℤ). StandsFor w (Some (to_z w64 (of_z w64 c.args.made.now.edge.weight)))) (sym kept) (nearest_stands _ _ c.nearest_word.ensures));
-  words = ap (λ (n : ℕ). slice_set c.self.inside.words.items n (to_z w32 (of_z w32 c.nearest_word.result))) (word_is c.self.inside c.args.place c.len-width.result c.source_in.result c.column_in.result c.word_place-word_place.result c.len-width.ensures c.source_in.ensures c.column_in.ensures c.word_place-word_place.ensures);
+  words = ap (λ (n : ℕ). slice_set c.self.inside.words.items n (to_z w32 (of_z w32 c.nearest_word.result)))
+      (word_is c.self.inside c.args.place c.len-width.result c.source_in.result c.column_in.result c.word_place-word_place.result c.len-width.ensures c.source_in.ensures c.column_in.ensures c.word_place-word_place.ensures);
   settled = refl;
   whys = c.in_ok-push.ensures.items;
 }
@@ -77,7 +78,8 @@ pub word_place-word_place-requires : goal.word_place-word_place-requires
 word_place-word_place-requires c =
     let width : c.len-width.result ≡ length c.self.inside.labels.items = c.len-width.ensures ∙ c.self.inside.labels.ok.0 in
     let inside = word_inside c.self.inside c.self.invariant c.args.place (place_stored c.self.inside c.args.self.now c.self.view_is c.args.place c.requires) in
-    let at : c.column_in.result * c.self.inside.points + c.source_in.result ≡ word_place c.self.inside c.args.place = (λ i. c.column_in.ensures i * c.self.inside.points + c.source_in.ensures i) ∙ ap (λ (n : ℕ). c.args.place % (n + 1) * c.self.inside.points + c.args.place / (n + 1)) width in
+    let at : c.column_in.result * c.self.inside.points + c.source_in.result ≡ word_place c.self.inside c.args.place = (λ i. c.column_in.ensures i * c.self.inside.points + c.source_in.ensures i)
+    ∙ ap (λ (n : ℕ). c.args.place % (n + 1) * c.self.inside.points + c.args.place / (n + 1)) width in
     subst (λ (n : ℕ). n < 2 ^ 64) (sym at) (omega (arith, inside, c.self.invariant.small, c.self.invariant.words))
 
 pub index_mut-requires-3 : goal.index_mut-requires-3

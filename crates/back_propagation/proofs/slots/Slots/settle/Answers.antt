@@ -35,7 +35,15 @@ returns c = λ slot at.
     let mark : c.index.result.now ≡ get_or c.self.inside.marks.items c.args.place 0 = c.index.ensures ∙ read_any c.self.inside.marks.items c.args.place c.index.result.now 0 marked in
     let why : c.why_in.result ≡ why_in c.self.inside.whys.items (get_or c.self.inside.marks.items c.args.place 0) = c.why_in.ensures ∙ (λ i. why_in (c.as_slice.ensures.value i) (mark i)) in (
       settled_view c.self.inside
-          (record { points = c.self.inside.points; labels = c.self.inside.labels; weights = c.self.inside.weights; words = c.self.inside.words; marks = c.self.inside.marks; settled = with_item c.self.inside.settled c.args.place true; whys = c.self.inside.whys }) c.args.place
+          (record {
+            points = c.self.inside.points;
+            labels = c.self.inside.labels;
+            weights = c.self.inside.weights;
+            words = c.self.inside.words;
+            marks = c.self.inside.marks;
+            settled = with_item c.self.inside.settled c.args.place true;
+            whys = c.self.inside.whys;
+          }) c.args.place
           (record { points = refl; labels = refl; weights = refl; words = refl; marks = refl; settled = refl; whys = refl }) c.self.invariant inside
           ∙ (λ i. slice_set (c.self.view_is i) c.args.place (record (here i) { settled = true })),
       why ∙ ap (λ (x : Slot). x.why) here,

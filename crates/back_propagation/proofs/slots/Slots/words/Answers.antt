@@ -16,7 +16,8 @@ pub returns : goal.returns
 returns c = λ head slot other at there same.
     let width : c.len-width.result ≡ length c.self.inside.labels.items = c.len-width.ensures ∙ c.self.inside.labels.ok.0 in
     let whole : c.args.place % width_in c.self.inside * c.self.inside.points + 0 ≡ c.args.place % width_in c.self.inside * c.self.inside.points = omega arith in
-    let begin : c.word_place-begin.result ≡ c.args.place % width_in c.self.inside * c.self.inside.points = c.word_place-begin.ensures ∙ (ap (λ (n : ℕ). n * c.self.inside.points + 0) (c.column_in.ensures ∙ ap (λ (n : ℕ). c.args.place % (n + 1)) width) ∙ whole) in
+    let begin : c.word_place-begin.result ≡ c.args.place % width_in c.self.inside * c.self.inside.points = c.word_place-begin.ensures
+    ∙ (ap (λ (n : ℕ). n * c.self.inside.points + 0) (c.column_in.ensures ∙ ap (λ (n : ℕ). c.args.place % (n + 1)) width) ∙ whole) in
     words_stand c.self.inside c.args.self.now c.self.view_is c.self.invariant c.args.place c.requires
     (slice_range c.deref.result.now c.word_place-begin.result (c.word_place-begin.result + c.self.inside.points))
     (λ i. slice_range (c.deref.ensures.value i) (begin i) (begin i + c.self.inside.points)) head slot other at there same

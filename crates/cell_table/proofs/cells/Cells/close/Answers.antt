@@ -4,8 +4,8 @@ use Rattle.closure_model.specs.Keys.{Shape}
 use Rattle.cell_table.proofs.CloseLemmas.{left_can, left_is, ok_then}
 use Rattle.cell_table.proofs.TakeLemmas.{ends_begin}
 use mathlib.Core.Option.{some}
-use Rattle.cell_table.specs.Filling.{IsLeftOf}
-use Rattle.cell_table.specs.Taking.{TakesCellWords}
+use Rattle.cell_table.specs.TableWords.{IsLeftOf}
+use Rattle.cell_table.specs.FinalTables.{TakesCellWords}
 use Rattle.cell_table.specs.Seats.{view_of}
 use Rattle.cell_table.specs.declared.view.About.{About}
 use Rattle.cell_table.specs.declared.view.View.{View}
@@ -21,7 +21,8 @@ taken_in-taken-requires-clause-ends c = search rules
 
 pub taken_in-taken-requires-clause-begins : goal.taken_in-taken-requires-clause-begins
 taken_in-taken-requires-clause-begins c =
-    ends_begin c.self.inside.words.shared.key.net.value c.self.invariant.plan c.as_slice.result.now (c.as_slice.ensures.value ∙ c.self.invariant.ends_are ∙ ap (λ (s : Shape). s.activations) c.self.invariant.fits) c.self.inside.points c.self.invariant.points_are
+    ends_begin c.self.inside.words.shared.key.net.value c.self.invariant.plan c.as_slice.result.now (c.as_slice.ensures.value ∙ c.self.invariant.ends_are
+    ∙ ap (λ (s : Shape). s.activations) c.self.invariant.fits) c.self.inside.points c.self.invariant.points_are
 
 pub returns : goal.returns
 returns c =

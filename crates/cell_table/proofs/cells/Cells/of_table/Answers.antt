@@ -1,9 +1,9 @@
 use Rattle.std.proofs.Common.{sym, subst}
-use Rattle.cell_table.specs.Filling.{AreWordsOf}
+use Rattle.cell_table.specs.TableWords.{AreWordsOfTable}
 use Rattle.cell_table.proofs.FillLemmas.{opens}
 use Rattle.cell_table.proofs.cells.Cells.of_table.Goals as goal
 
 pub of_words-requires : goal.of_words-requires
 of_words-requires c =
     opens record { net = c.of.result; first = c.of-2.result; seats = c.args.seats } c.args.net.now c.args.table.now c.as_slice.result.now c.of.ensures c.of-2.ensures c.points-points.ensures.sound
-    c.requires.fits c.requires.derivable (subst (AreWordsOf c.args.table.now) (sym c.as_slice.ensures.value) c.in-Ok-words_of.ensures)
+    c.requires.fits c.requires.derivable (subst (AreWordsOfTable c.args.table.now) (sym c.as_slice.ensures.value) c.in-Ok-words_of.ensures)

@@ -12,7 +12,8 @@ invariant_of-self c =
     let kept : to_z w64 (of_z w64 c.min-word.result) ≡ c.min-word.result = search rules in
     let held : to_z w64 (of_z w64 c.index.result.now.word) ≡ c.index.result.now.word = search rules in
     let own : to_z w64 (of_z w64 c.args.weight) ≡ c.args.weight = search rules in
-    let found = row_found c.self.inside.points c.self.inside.starts.items c.args.self.now c.self.view_is c.self.invariant c.as_slice.result.now c.as_slice.ensures.value c.args.from c.requires c.in-Ok.place c.index.result.now c.in-Ok.ensures in
+    let found = row_found c.self.inside.points c.self.inside.starts.items c.args.self.now c.self.view_is c.self.invariant c.as_slice.result.now c.as_slice.ensures.value c.args.from c.requires c.in-Ok.place c.index.result.now
+    c.in-Ok.ensures in
     let least : one.word ≡ int_min (get_or c.args.self.now c.args.from absent) c.args.weight =
     kept ∙ (c.min-word.ensures.value ∙ (λ i. int_min ((held ∙ (ap (λ (s : Start). s.word) c.index.ensures ∙ found)) i) (own i))) in
     (row_set c.self.inside.points c.self.inside.starts.items c.args.self.now c.self.view_is c.self.invariant c.as_slice.result.now c.as_slice.ensures.value one c.args.weight c.requires c.in-Ok.place c.in-Ok.ensures least).0
@@ -23,7 +24,8 @@ invariant_of-self-in-Err c =
     let kept : to_z w64 (of_z w64 c.args.weight) ≡ c.args.weight = search rules in
     let fits = c.ranges.weight.sfits in
     let most : c.args.weight ≤ℤ absent = grind (arith, ints) in
-    (row_put c.self.inside.points c.self.inside.starts.items c.args.self.now c.self.view_is c.self.invariant c.as_slice.result.now c.as_slice.ensures.value one c.args.weight c.requires c.in-Err.place c.in-Err.ensures kept most c.insert.new.self.items c.in_ok-insert-in-Err.ensures.items).0
+    (row_put c.self.inside.points c.self.inside.starts.items c.args.self.now c.self.view_is c.self.invariant c.as_slice.result.now c.as_slice.ensures.value one c.args.weight c.requires c.in-Err.place c.in-Err.ensures kept most
+    c.insert.new.self.items c.in_ok-insert-in-Err.ensures.items).0
 
 pub returns-in-Ok : goal.returns-in-Ok
 returns-in-Ok c =
@@ -31,7 +33,8 @@ returns-in-Ok c =
     let kept : to_z w64 (of_z w64 c.min-word.result) ≡ c.min-word.result = search rules in
     let held : to_z w64 (of_z w64 c.index.result.now.word) ≡ c.index.result.now.word = search rules in
     let own : to_z w64 (of_z w64 c.args.weight) ≡ c.args.weight = search rules in
-    let found = row_found c.self.inside.points c.self.inside.starts.items c.args.self.now c.self.view_is c.self.invariant c.as_slice.result.now c.as_slice.ensures.value c.args.from c.requires c.in-Ok.place c.index.result.now c.in-Ok.ensures in
+    let found = row_found c.self.inside.points c.self.inside.starts.items c.args.self.now c.self.view_is c.self.invariant c.as_slice.result.now c.as_slice.ensures.value c.args.from c.requires c.in-Ok.place c.index.result.now
+    c.in-Ok.ensures in
     let least : one.word ≡ int_min (get_or c.args.self.now c.args.from absent) c.args.weight =
     kept ∙ (c.min-word.ensures.value ∙ (λ i. int_min ((held ∙ (ap (λ (s : Start). s.word) c.index.ensures ∙ found)) i) (own i))) in
     (row_set c.self.inside.points c.self.inside.starts.items c.args.self.now c.self.view_is c.self.invariant c.as_slice.result.now c.as_slice.ensures.value one c.args.weight c.requires c.in-Ok.place c.in-Ok.ensures least).1
@@ -42,4 +45,5 @@ returns-in_ok-insert-in-Err c =
     let kept : to_z w64 (of_z w64 c.args.weight) ≡ c.args.weight = search rules in
     let fits = c.ranges.weight.sfits in
     let most : c.args.weight ≤ℤ absent = grind (arith, ints) in
-    (row_put c.self.inside.points c.self.inside.starts.items c.args.self.now c.self.view_is c.self.invariant c.as_slice.result.now c.as_slice.ensures.value one c.args.weight c.requires c.in-Err.place c.in-Err.ensures kept most c.insert.new.self.items c.in_ok-insert-in-Err.ensures.items).1
+    (row_put c.self.inside.points c.self.inside.starts.items c.args.self.now c.self.view_is c.self.invariant c.as_slice.result.now c.as_slice.ensures.value one c.args.weight c.requires c.in-Err.place c.in-Err.ensures kept most
+    c.insert.new.self.items c.in_ok-insert-in-Err.ensures.items).1

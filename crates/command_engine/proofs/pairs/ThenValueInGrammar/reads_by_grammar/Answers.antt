@@ -3,4 +3,4 @@ use Rattle.command_engine.proofs.pairs.ThenValueInGrammar.reads_by_grammar.Goals
 
 pub returns : goal.returns
 returns g c = λ past.
-    pair_by g.A.Text.reader g.B.Text.reader g.B.InGrammar.beginning g.A.InGrammar.beginning past (g.A.InGrammar.grammar past) g.B.InGrammar.grammar (c.reads_by_grammar.ensures past) c.reads_by_grammar-2.ensures
+    pair_by g.A.Text.reader g.B.Text.reader g.B.InGrammar.initial_text g.A.InGrammar.initial_text past (g.A.InGrammar.grammar past) g.B.InGrammar.grammar (c.reads_by_grammar.ensures past) c.reads_by_grammar-2.ensures

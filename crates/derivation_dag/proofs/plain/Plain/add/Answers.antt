@@ -2,8 +2,8 @@ use Rattle.std.proofs.Common.{◌≡◌, sym, subst}
 use Rattle.closure_model.specs.Keys.{key_of, shape_of, IsKey}
 use Rattle.closure_model.specs.Tables.{IsFor}
 use Rattle.closure_model.specs.Derivations.{Support, IsGiven}
-use Rattle.closure_model.proofs.Made.{given_within}
-use Rattle.derivation_dag.specs.Supported.{IsSupported}
+use Rattle.closure_model.proofs.DerivedNodes.{given_within}
+use Rattle.derivation_dag.specs.SupportedTables.{IsSupported}
 use Rattle.derivation_dag.proofs.PlainLemmas.{key_of_edge, supported_more}
 use Rattle.derivation_dag.proofs.plain.Plain.add.Goals as goal
 

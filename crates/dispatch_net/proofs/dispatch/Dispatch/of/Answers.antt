@@ -6,7 +6,7 @@ use Rattle.dispatch_net.specs.Execution.{ExecutionSatisfies}
 use Rattle.dispatch_net.specs.Held.{HeldLists, AreInOrder, GoDown}
 use Rattle.dispatch_net.proofs.DownLemmas.{made_go_down}
 use Rattle.dispatch_net.proofs.ExactLemmas.{in_order}
-use Rattle.dispatch_net.proofs.ExecutionLemmas.{executions_satisfy}
+use Rattle.dispatch_net.proofs.ExecutionLemmas.{law_executions_satisfy}
 use Rattle.dispatch_net.proofs.dispatch.Dispatch.of.Goals as goal
 
 pub new-requires-clause-in_order : goal.new-requires-clause-in_order
@@ -21,7 +21,7 @@ invariant_of-result c =
       slim_or_whole = inl (kept ∙ sym made);
       down = subst (λ (order : List PointId). GoDown order c.in_ok-held.held.lists) (sym c.in_ok-order.ensures.items)
           (subst (GoDown c.args.order.now) (sym (kept ∙ c.in_ok-lists.ensures.made)) (made_go_down c.args.net.now c.args.table.now c.args.order.now c.requires.may.for_network c.requires.may.ordered));
-      room = let same = ap (λ (order : List PointId). length order) c.in_ok-order.ensures.items in omega (arith, c.in_ok-others.ensures.capacity, same);
+      spare_capacity = let same = ap (λ (order : List PointId). length order) c.in_ok-order.ensures.items in omega (arith, c.in_ok-others.ensures.capacity, same);
     }
 
 pub returns-clause-executed : goal.returns-clause-executed
@@ -29,4 +29,4 @@ returns-clause-executed c =
     λ instant sound.
     let made : c.of-made.result.value.items ≡ c.in_ok-lists.lists.items = ap (λ (all : Vec Conditions Global). all.items) c.of-made.ensures in
     subst (ExecutionSatisfies c.args.net.now) (sym (made ∙ c.in_ok-lists.ensures.made))
-    (executions_satisfy c.args.net.now c.args.table.now c.args.order.now instant c.requires.may.for_network sound c.requires.may.closed c.requires.may.ordered)
+    (law_executions_satisfy c.args.net.now c.args.table.now c.args.order.now instant c.requires.may.for_network sound c.requires.may.closed c.requires.may.ordered)

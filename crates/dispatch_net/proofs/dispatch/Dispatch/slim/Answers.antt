@@ -14,5 +14,5 @@ invariant_of-result c =
       slim_or_whole = subst (λ (links : List Link). IsSlimOrWhole links made c.slim.new.self.lists) (sym c.slim.ensures.links)
           (inr (c.slim.ensures.lists ∙ slim_again held.links made held.lists c.self.invariant.slim_or_whole));
       down = subst (GoDown order) (sym c.slim.ensures.lists) (slim_go_down held.links held.lists order c.self.invariant.down);
-      room = subst (λ (n : ℕ). length order ≤ n) (sym c.slim.ensures.room) c.self.invariant.room;
+      spare_capacity = subst (λ (n : ℕ). length order ≤ n) (sym c.slim.ensures.spare_capacity) c.self.invariant.spare_capacity;
     }

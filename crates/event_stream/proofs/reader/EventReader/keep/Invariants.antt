@@ -9,7 +9,7 @@ abbrev pub invariant-loop-word : goal.invariant-loop-word
 invariant-loop-word l = record {
   points : GoesOn l.net (words l.rest) (words l.names) l.self-inside.completions.items;
   fits : vec_len l.self-inside.completions + length (words l.rest) ≤ most_completions;
-  room : most_completions ≤ vec_capacity l.self-inside.completions;
+  spare_capacity : most_completions ≤ vec_capacity l.self-inside.completions;
 }
 
 abbrev pub decreases-loop-word : goal.decreases-loop-word

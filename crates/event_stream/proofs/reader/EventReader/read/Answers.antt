@@ -1,4 +1,4 @@
-use Rattle.event_stream.proofs.ReadingLemmas.{grammar, every, fault, points}
+use Rattle.event_stream.proofs.ReadLineLemmas.{grammar, every, fault, points}
 use Rattle.event_stream.proofs.reader.EventReader.read.Goals as goal
 
 pub returns-clause-grammar : goal.returns-clause-grammar

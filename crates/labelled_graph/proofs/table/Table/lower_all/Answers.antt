@@ -1,5 +1,5 @@
 use Rattle.std.proofs.Common.{refl, sym, subst, ◌∙◌}
-use Rattle.labelled_graph.specs.Merging.{AreEntriesOf}
+use Rattle.labelled_graph.specs.MergedRows.{AreEntriesOf}
 use Rattle.labelled_graph.specs.Rows.{AreRising}
 use Rattle.labelled_graph.proofs.LowerLemmas.{merged_stored, merged_table}
 use Rattle.labelled_graph.proofs.table.Table.lower_all.Goals as goal

@@ -24,4 +24,5 @@ lower_to-requires-clause-weight c =
 
 pub loop-place-preserved : goal.loop-place-preserved
 loop-place-preserved c =
-    links_lowered-more c.args.self.now c.loop-place.self c.lower_to.new.self c.args.links.now c.loop-place.place _ c.loop-place-test.true c.loop-place.invariant (c.in_ok-lower_to.ensures.lowered.1 ∙ ap (lowered c.loop-place.self) c.link_edge.ensures)
+    links_lowered-more c.args.self.now c.loop-place.self c.lower_to.new.self c.args.links.now c.loop-place.place _ c.loop-place-test.true c.loop-place.invariant (c.in_ok-lower_to.ensures.lowered.1
+    ∙ ap (lowered c.loop-place.self) c.link_edge.ensures)

@@ -13,15 +13,18 @@ lower_to_links-requires-clause-sound c =
 
 pub returns-clause-base : goal.returns-clause-base
 returns-clause-base c =
-    base_made c.args.net.now c.in_ok-table.table c.lower_to_bounds.new.self c.lower_to_links.new.self c.bounds.result.now c.links.result.now c.in_ok-table.ensures c.in_ok-lower_to_bounds.ensures c.bounds.ensures.bounds c.in_ok-lower_to_links.ensures c.links.ensures.links
+    base_made c.args.net.now c.in_ok-table.table c.lower_to_bounds.new.self c.lower_to_links.new.self c.bounds.result.now c.links.result.now c.in_ok-table.ensures c.in_ok-lower_to_bounds.ensures c.bounds.ensures.bounds
+    c.in_ok-lower_to_links.ensures c.links.ensures.links
 
 pub returns-clause-shape : goal.returns-clause-shape
 returns-clause-shape c =
-    ap (λ (g : Graph). g.shape) (base_made c.args.net.now c.in_ok-table.table c.lower_to_bounds.new.self c.lower_to_links.new.self c.bounds.result.now c.links.result.now c.in_ok-table.ensures c.in_ok-lower_to_bounds.ensures c.bounds.ensures.bounds c.in_ok-lower_to_links.ensures c.links.ensures.links)
+    ap (λ (g : Graph). g.shape) (base_made c.args.net.now c.in_ok-table.table c.lower_to_bounds.new.self c.lower_to_links.new.self c.bounds.result.now c.links.result.now c.in_ok-table.ensures c.in_ok-lower_to_bounds.ensures
+    c.bounds.ensures.bounds c.in_ok-lower_to_links.ensures c.links.ensures.links)
     ∙ base_shape c.args.net.now c.links.ensures.sound
 
 pub returns-clause-sound : goal.returns-clause-sound
 returns-clause-sound c =
     subst IsGraph
-    (sym (base_made c.args.net.now c.in_ok-table.table c.lower_to_bounds.new.self c.lower_to_links.new.self c.bounds.result.now c.links.result.now c.in_ok-table.ensures c.in_ok-lower_to_bounds.ensures c.bounds.ensures.bounds c.in_ok-lower_to_links.ensures c.links.ensures.links))
+    (sym (base_made c.args.net.now c.in_ok-table.table c.lower_to_bounds.new.self c.lower_to_links.new.self c.bounds.result.now c.links.result.now c.in_ok-table.ensures c.in_ok-lower_to_bounds.ensures c.bounds.ensures.bounds
+    c.in_ok-lower_to_links.ensures c.links.ensures.links))
     (base_sound c.args.net.now c.links.ensures.sound)

@@ -28,16 +28,19 @@ pub replace-requires-clause-present : goal.replace-requires-clause-present
 replace-requires-clause-present c =
     let sound = sound_graph c.self.inside.rows.items c.self.inside.activations.items c.self.invariant c.args.self.now c.self.view_is in
     let is_key = present_key c.args.self.now sound (key_of c.args.edge.now) c.requires.present in
-    subst IsSome (sym (row_reads c.self.inside.rows.items c.self.inside.activations.items c.self.invariant c.args.self.now c.self.view_is (key_of c.args.edge.now) is_key c.index_mut-row.result.now c.index_mut-row.ensures.value)) c.requires.present
+    subst IsSome (sym (row_reads c.self.inside.rows.items c.self.inside.activations.items c.self.invariant c.args.self.now c.self.view_is (key_of c.args.edge.now) is_key c.index_mut-row.result.now c.index_mut-row.ensures.value))
+    c.requires.present
 
 pub invariant_of-self : goal.invariant_of-self
 invariant_of-self c =
     let sound = sound_graph c.self.inside.rows.items c.self.inside.activations.items c.self.invariant c.args.self.now c.self.view_is in
     let is_key = present_key c.args.self.now sound (key_of c.args.edge.now) c.requires.present in
-    (one_set c.self.inside.rows.items c.self.inside.activations.items c.self.invariant c.args.self.now c.self.view_is (key_of c.args.edge.now) c.args.edge.now.weight is_key c.requires.weight c.index_mut-row.result.now c.replace.new.self c.index_mut-row.ensures.value c.replace.ensures).0
+    (one_set c.self.inside.rows.items c.self.inside.activations.items c.self.invariant c.args.self.now c.self.view_is (key_of c.args.edge.now) c.args.edge.now.weight is_key c.requires.weight c.index_mut-row.result.now c.replace.new.self
+    c.index_mut-row.ensures.value c.replace.ensures).0
 
 pub returns : goal.returns
 returns c =
     let sound = sound_graph c.self.inside.rows.items c.self.inside.activations.items c.self.invariant c.args.self.now c.self.view_is in
     let is_key = present_key c.args.self.now sound (key_of c.args.edge.now) c.requires.present in
-    (one_set c.self.inside.rows.items c.self.inside.activations.items c.self.invariant c.args.self.now c.self.view_is (key_of c.args.edge.now) c.args.edge.now.weight is_key c.requires.weight c.index_mut-row.result.now c.replace.new.self c.index_mut-row.ensures.value c.replace.ensures).1
+    (one_set c.self.inside.rows.items c.self.inside.activations.items c.self.invariant c.args.self.now c.self.view_is (key_of c.args.edge.now) c.args.edge.now.weight is_key c.requires.weight c.index_mut-row.result.now c.replace.new.self
+    c.index_mut-row.ensures.value c.replace.ensures).1

@@ -7,8 +7,8 @@ use Rattle.live_executor.proofs.executor.Executor.start.Goals as goal
 pub invariant_of-result : goal.invariant_of-result
 invariant_of-result c =
     let network = c.in_ok-dispatched.dispatched in
-    let course = c.in_ok-course.course in
-    let stands = c.in_ok-course.ensures.stands in
+    let state = c.in_ok-state.state in
+    let stands = c.in_ok-state.ensures.stands in
     let no_acts = ap (λ xs. length xs) c.in_ok-acts.ensures.items in
     record {
       count = stands.count;
@@ -17,12 +17,12 @@ invariant_of-result c =
       soon = omega arith;
       goes_on = λ going. record {
         stands = stands;
-        before = none_before 0 (length network.made) course.moments c.in_ok-course.ensures.moments;
-        time_left = (let few = stands.few in omega (arith, few, left_at_most course.moments));
+        before = none_before 0 (length network.made) state.moments c.in_ok-state.ensures.moments;
+        time_left = (let few = stands.few in omega (arith, few, left_at_most state.moments));
       };
     }
 
 pub returns : goal.returns
 returns c =
-    starts (made_setting c.in_ok-dispatched.dispatched) (record { links = c.args.net.now.links; dispatch = c.args.dispatch.made }) c.in_ok-course.course.moments c.in_ok-acts.acts.items
-    c.in_ok-dispatched.ensures c.in_ok-course.ensures.moments c.in_ok-acts.ensures.items
+    starts (made_setting c.in_ok-dispatched.dispatched) (record { links = c.args.net.now.links; dispatch = c.args.dispatch.made }) c.in_ok-state.state.moments c.in_ok-acts.acts.items
+    c.in_ok-dispatched.ensures c.in_ok-state.ensures.moments c.in_ok-acts.ensures.items

@@ -1,9 +1,9 @@
 use Rattle.std.proofs.Common.{◌≡◌, ◌+◌, ◌<◌, ◌∙◌, None, ap, sym, subst, length, arith}
 use Rattle.std.specs.List.{All}
 use Rattle.net_model.specs.declared.ids.PointId.{PointId}
-use Rattle.execution_model.specs.Feeding.{Execution, next_moment}
-use Rattle.live_executor.specs.Course.{CourseSoFar}
-use Rattle.live_executor.specs.Kept.{GoesOn, moment_after}
+use Rattle.execution_model.specs.Feeds.{Execution, next_moment}
+use Rattle.live_executor.specs.ExecutionStates.{ExecutionSoFar}
+use Rattle.live_executor.specs.Kept.{ExecutionGoesOn, moment_after}
 use Rattle.live_executor.proofs.LastLemmas.{goes_on_with}
 use Rattle.live_executor.proofs.MomentLemmas.{may_be_fed}
 use Rattle.live_executor.proofs.executor.Executor.take.Goals as goal
@@ -13,7 +13,7 @@ try_feed-tried-requires-clause-goes_on c =
     let kept = c.self.inside in
     let going : kept.refused ≡ None = ap (λ (e : Execution). e.refused) c.self.view_is ∙ c.requires.going in
     let first : c.next_moment-from.result ≡ moment_after kept.last = c.next_moment-from.ensures ∙ ap (λ (e : Execution). next_moment e) (sym c.self.view_is) in
-    subst (λ from. GoesOn kept.dispatched from kept.course) (sym first) (c.self.invariant.goes_on going)
+    subst (λ from. ExecutionGoesOn kept.dispatched from kept.state) (sym first) (c.self.invariant.goes_on going)
 
 pub try_feed-tried-requires-clause-listed : goal.try_feed-tried-requires-clause-listed
 try_feed-tried-requires-clause-listed c = record {
@@ -33,9 +33,9 @@ invariant_of-self-in-Ok c =
     let after = c.try_feed-tried.new.self in
     let goes = c.in-Ok.ensures.goes_on in
     record {
-      count = ap (λ (course : CourseSoFar). length course.moments) c.hand_over.ensures.course ∙ goes.stands.count;
-      few = (let few = c.hand_over.ensures.room.few in omega (arith, few));
-      reserved = c.hand_over.ensures.room.reserved;
+      count = ap (λ (state : ExecutionSoFar). length state.moments) c.swap_acts.ensures.state ∙ goes.stands.count;
+      few = (let few = c.swap_acts.ensures.spare_capacity.few in omega (arith, few));
+      reserved = c.swap_acts.ensures.spare_capacity.reserved;
       soon = (let left = goes.time_left in omega (arith, left));
-      goes_on = λ still. rw c.hand_over.ensures.course (goes_on_with network (c.args.moment + 1) after goes);
+      goes_on = λ still. rw c.swap_acts.ensures.state (goes_on_with network (c.args.moment + 1) after goes);
     }

@@ -3,7 +3,7 @@ use Rattle.std.specs.List.{All}
 use Rattle.std.proofs.lemmas.List.Elements.{All-contains}
 use Rattle.dispatch_net.specs.Dispatchable.{conditions_at, no_conditions}
 use Rattle.execution_model.specs.Execution.{Setting}
-use Rattle.live_executor.specs.Sound.{IsLowerBound, IsLinkOf}
+use Rattle.live_executor.specs.Sound.{IsLowerBound, IsLinkWithin}
 use Rattle.live_executor.specs.Wakes.{AreWakesOf}
 use Rattle.live_executor.proofs.WakesLemmas.{no_points, one_point_more, all_points, place_inside}
 use Rattle.live_executor.proofs.wakes.Wakes.of.Goals as goal
@@ -25,7 +25,7 @@ add-requires-clause-waits c = c.requires.sound.waits c.loop-number.number no_con
 pub add-requires-clause-links : goal.add-requires-clause-links
 add-requires-clause-links c =
     let same : length c.args.dispatch.now.kept ≡ length c.loop-number.wakes.fixes = sym c.requires.count ∙ sym c.loop-number.invariant.fixes_count in
-    subst (λ m. All (IsLinkOf m) c.args.dispatch.now.links) same c.requires.sound.links
+    subst (λ m. All (IsLinkWithin m) c.args.dispatch.now.links) same c.requires.sound.links
 
 pub loop-number-preserved : goal.loop-number-preserved
 loop-number-preserved c =
@@ -35,12 +35,12 @@ loop-number-preserved c =
     let setting : Setting = record { links = links; dispatch = kept } in
     let points = c.args.points in
     let bounds = subst (λ m. All (IsLowerBound m) (conditions_at kept (record { 0 = n })).lower_bounds) (sym c.requires.count) (c.requires.sound.bounds n no_conditions (omega (arith, c.requires.count))) in
-    let ends = subst (λ m. All (IsLinkOf m) links) (sym c.requires.count) c.requires.sound.links in
+    let ends = subst (λ m. All (IsLinkWithin m) links) (sym c.requires.count) c.requires.sound.links in
     subst (AreWakesOf (record { links = links; dispatch = take (n + 1) kept }) points) (sym c.in_ok-add.ensures)
     (one_point_more setting points n c.loop-number.wakes c.loop-number.invariant (omega arith)
     (λ bound among. (All-contains (IsLowerBound points) (conditions_at kept (record { 0 = n })).lower_bounds bound bounds among).within)
-    (λ wait among. place_inside (λ link. link.from) points links wait (λ link there. (All-contains (IsLinkOf points) links link ends there).from_point))
-    (λ wait among. place_inside (λ link. link.to) points links wait (λ link there. (All-contains (IsLinkOf points) links link ends there).to_point)))
+    (λ wait among. place_inside (λ link. link.from) points links wait (λ link there. (All-contains (IsLinkWithin points) links link ends there).from_point))
+    (λ wait among. place_inside (λ link. link.to) points links wait (λ link there. (All-contains (IsLinkWithin points) links link ends there).to_point)))
 
 pub returns : goal.returns
 returns c =

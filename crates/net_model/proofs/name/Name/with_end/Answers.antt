@@ -1,7 +1,7 @@
 use Rattle.std.proofs.Common.{◌≡◌, ◌∙◌, ◌≤◌, ◌+◌, ◌-◌, ◌++◌, ℕ, List, length, take, sym, ap, subst, arith, IsTrue}
 use Rattle.std.proofs.lemmas.List.{length-take-le}
 use Rattle.net_model.specs.Names.{is_name}
-use Rattle.net_model.proofs.NameLemmas.{front, written_is}
+use Rattle.net_model.proofs.NameLemmas.{prefix, written_is}
 use Rattle.net_model.proofs.name.Name.with_end.Goals as goal
 
 pub invariant_of-result : goal.invariant_of-result
@@ -27,4 +27,4 @@ returns c =
     let at : c.from-len.result ≡ len = c.from-len.ensures in
     let counted : len ≡ length text = sym (length-take-le len bytes (omega (arith, c.self.invariant.0, c.self.invariant.1))) in
     let fits : length text + length end ≤ 32 = subst (λ (name : List ℕ). length name + length end ≤ 32) (sym c.self.view_is) c.requires.fits in
-    rw (same, at) (front bytes text end len (len + length end - len) c.self.invariant.2 counted (omega arith) (omega (arith, counted, fits)) ∙ ap (λ (name : List ℕ). name ++ end) c.self.view_is)
+    rw (same, at) (prefix bytes text end len (len + length end - len) c.self.invariant.2 counted (omega arith) (omega (arith, counted, fits)) ∙ ap (λ (name : List ℕ). name ++ end) c.self.view_is)

@@ -1,5 +1,5 @@
-use Rattle.net_model.specs.Editing.{edited}
-use Rattle.net_model.proofs.EditKeeping.{edited_numbers, numbers_of}
+use Rattle.net_model.specs.EditedNetwork.{edited}
+use Rattle.net_model.proofs.EditSoundness.{edited_numbers, numbers_of}
 use Rattle.net_model.proofs.network.Network.apply.Goals as goal
 
 pub returns-clause-numbers : goal.returns-clause-numbers

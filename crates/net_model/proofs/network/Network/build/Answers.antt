@@ -1,6 +1,6 @@
 use Rattle.std.proofs.Common.{◌≡◌, subst, ap, sym, ◌∙◌, IfOk, Result, Ok}
 use Rattle.net_model.specs.Network.{Plan, HasPlanNumbers}
-use Rattle.net_model.specs.Building.{with_parts}
+use Rattle.net_model.specs.BuiltNetwork.{with_parts}
 use Rattle.net_model.specs.declared.fault.BuildFault.{BuildFault}
 use Rattle.net_model.proofs.DelayLemmas.{built_delay}
 use Rattle.net_model.proofs.PlanNumbers.{built_numbers}

@@ -1,7 +1,7 @@
 use Rattle.std.proofs.Common.{◌≡◌, pos, w64, ◌∙◌, ap, arith}
 use Rattle.std.proofs.lemmas.Int.{to_z_pos, fits_signed_from_abs}
 use Rattle.net_model.specs.Network.{greatest}
-use Rattle.net_model.specs.Stored.{plan_of}
+use Rattle.net_model.specs.StoredNetwork.{plan_of}
 use Rattle.net_model.proofs.NetworkLemmas.{greatest-le}
 use Rattle.net_model.proofs.network.Network.greatest.Goals as goal
 

@@ -2,7 +2,7 @@ use Rattle.std.proofs.Common.{◌≡◌, ◌∙◌, ap, sym, map, position}
 use Rattle.std.specs.Option.{option_map}
 use Rattle.std.specs.Str.{bytes_eq}
 use Rattle.net_model.specs.Network.{bound_named}
-use Rattle.net_model.specs.Stored.{plan_of}
+use Rattle.net_model.specs.StoredNetwork.{plan_of}
 use Rattle.net_model.specs.declared.part.Bound.{Bound}
 use Rattle.net_model.proofs.NetworkLemmas.{bound_named-names_of}
 use Rattle.net_model.proofs.network.Network.named_bound.Goals as goal

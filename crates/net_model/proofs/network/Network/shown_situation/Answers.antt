@@ -3,7 +3,7 @@ use Rattle.net_model.specs.declared.part.Link.{Link}
 use Rattle.net_model.proofs.ShownLemmas.{durations_next}
 use Rattle.net_model.proofs.network.Network.shown_situation.Goals as goal
 
--- what stands where there is no link
+-- the default if there is no link
 nothing : Link
 nothing = record { from = record { 0 = 0 }; low = pos 0; high = pos 0; to = record { 0 = 0 } }
 

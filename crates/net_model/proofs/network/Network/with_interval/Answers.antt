@@ -3,14 +3,14 @@ use Rattle.std.specs.Prelude.{int_lt}
 use Rattle.std.proofs.lemmas.Int.{to_z-of_z}
 use Rattle.net_model.specs.Limits.{within_limit}
 use Rattle.net_model.specs.Network.{Plan, IsPlan}
-use Rattle.net_model.specs.Editing.{edited, with_interval}
+use Rattle.net_model.specs.EditedNetwork.{edited, with_interval}
 use Rattle.net_model.specs.declared.part.Link.{Link}
 use Rattle.net_model.specs.declared.edit.Edit.TheVariants as edits
 use Rattle.net_model.proofs.EditLemmas.{interval_made, interval_refused, longest_refused, made_sound, made_of}
 use Rattle.net_model.proofs.network.Network.with_interval.Goals as goal
 use Rattle.net_model.proofs.network.Network.with_interval.Goals.{After-as_slice, then-low-lt1-via-then-low-lt1, then-low-lt1-via-else-low-lt1+then-high-low}
 
--- what stands where there is no link
+-- the default if there is no link
 nothing : Link
 nothing = record { from = record { 0 = 0 }; low = pos 0; high = pos 0; to = record { 0 = 0 } }
 

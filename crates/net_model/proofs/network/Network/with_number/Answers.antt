@@ -2,7 +2,7 @@ use Rattle.std.proofs.Common.{◌≡◌, sym, ap, ◌∙◌, ℤ, w64, List, Ok,
 use Rattle.std.proofs.lemmas.Int.{to_z-of_z}
 use Rattle.net_model.specs.Limits.{within_limit}
 use Rattle.net_model.specs.Network.{Plan, IsPlan}
-use Rattle.net_model.specs.Editing.{edited, with_number}
+use Rattle.net_model.specs.EditedNetwork.{edited, with_number}
 use Rattle.net_model.specs.declared.part.Bound.{Bound}
 use Rattle.net_model.specs.declared.edit.Edit.TheVariants as edits
 use Rattle.net_model.proofs.EditLemmas.{number_made, made_sound, made_of}

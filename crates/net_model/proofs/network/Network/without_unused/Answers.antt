@@ -1,6 +1,6 @@
 use Rattle.std.proofs.Common.{ap, ◌∙◌, List, ℕ}
 use Rattle.std.specs.List.{remove}
-use Rattle.net_model.specs.Editing.{closed_up_bounds, closed_up_links, without_point}
+use Rattle.net_model.specs.EditedNetwork.{closed_up_bounds, closed_up_links, without_point}
 use Rattle.net_model.proofs.EditLemmas.{sound_without_point, made_sound}
 use Rattle.net_model.proofs.network.Network.without_unused.Goals as goal
 

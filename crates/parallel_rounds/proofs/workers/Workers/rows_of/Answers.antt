@@ -2,7 +2,7 @@
 use Rattle.std.proofs.Common.{length, ap, arith}
 use Rattle.work_board.specs.declared.view.Size.{Size}
 use Rattle.parallel_rounds.proofs.InOrder.{can_make, rows_in_order}
-use Rattle.parallel_rounds.proofs.Rising.{rising_short}
+use Rattle.parallel_rounds.proofs.RisingPoints.{rising_short}
 use Rattle.parallel_rounds.proofs.workers.Workers.rows_of.Goals as goal
 
 pub overflow_cast-task : goal.overflow_cast-task

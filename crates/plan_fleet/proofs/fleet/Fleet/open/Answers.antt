@@ -1,5 +1,5 @@
-use Rattle.plan_fleet.specs.Openings.{nets_given}
-use Rattle.plan_fleet.proofs.OpeningLemmas.{all_decided, are_opened}
+use Rattle.plan_fleet.specs.FleetStart.{nets_given}
+use Rattle.plan_fleet.proofs.FleetStartLemmas.{all_decided, are_opened}
 use Rattle.plan_fleet.proofs.fleet.Fleet.open.Goals as goal
 
 pub gather-requires : goal.gather-requires

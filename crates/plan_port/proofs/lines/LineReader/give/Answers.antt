@@ -1,19 +1,19 @@
 use Rattle.std.proofs.Common.{◌-◌, ◌≤◌, length, sym, ap, ◌∙◌, arith}
-use Rattle.plan_port.specs.Reader.{Reader, room, after_answer}
+use Rattle.plan_port.specs.Reader.{Reader, spare_capacity, after_answer}
 use Rattle.plan_port.specs.declared.lines.Line.{Line}
 use Rattle.plan_port.proofs.FirstLines.{decide_nothing, nothing_is_small}
-use Rattle.plan_port.proofs.Answering.{line_within, gives_whole, gives_last}
+use Rattle.plan_port.proofs.ReaderAnswers.{line_within, gives_whole, gives_last}
 use Rattle.plan_port.proofs.lines.LineReader.give.Goals as goal
 
 pub give_line-requires-clause-whole : goal.give_line-requires-clause-whole
 give_line-requires-clause-whole c =
     let r = c.args.self.now in
-    (line_within c.args.longest (room r) r.kept c.in-Line.size (sym c.requires.judged ∙ c.in-Line.is)).0
+    (line_within c.args.longest (spare_capacity r) r.kept c.in-Line.size (sym c.requires.judged ∙ c.in-Line.is)).0
 
 pub give_last-requires-clause-within : goal.give_last-requires-clause-within
 give_last-requires-clause-within c =
     let r = c.args.self.now in
-    let small : length r.kept ≤ r.most - r.before = (nothing_is_small c.args.longest (room r) r.kept (decide_nothing c.args.longest (room r) r.kept (sym c.requires.judged ∙ c.in-Unclear.is))).1 in
+    let small : length r.kept ≤ r.most - r.before = (nothing_is_small c.args.longest (spare_capacity r) r.kept (decide_nothing c.args.longest (spare_capacity r) r.kept (sym c.requires.judged ∙ c.in-Unclear.is))).1 in
     let before = ap (λ (x : Reader). x.before) c.self.view_is in
     let most = ap (λ (x : Reader). x.most) c.self.view_is in
     omega (arith, small, before, most, c.self.invariant.1.within)

@@ -1,8 +1,8 @@
 use Rattle.std.proofs.Common.{◌≡◌, ◌-◌, ◌+◌, ◌≤◌, ◌++◌, ℕ, List, length, take, drop, sym, ap, ◌∙◌, arith, length-take, length-drop}
 use Rattle.std.specs.List.{position_or_len, slice_range}
 use Rattle.std.proofs.lemmas.List.{append-nil}
-use Rattle.plan_port.specs.Reading.{ends_line}
-use Rattle.plan_port.specs.Held.{Held}
+use Rattle.plan_port.specs.ReaderSteps.{ends_line}
+use Rattle.plan_port.specs.WindowContents.{WindowContents}
 use Rattle.plan_port.proofs.Windows.{lent, below, grown, gives_nothing, empty_range}
 use Rattle.plan_port.proofs.window.Window.fill.Goals as goal
 
@@ -55,7 +55,7 @@ returns-in-Bytes-clause-took g c =
     let len : w.bytes.len ≡ length w.bytes.items = omega arith in
     let inside : w.end ≤ w.bytes.len = omega arith in
     let whole = lent w.bytes.items d into w.bytes.len w.end c.deref_mut.ensures.value len inside fits in
-    let kept = ap (λ (h : Held). h.kept) c.self.view_is in (
+    let kept = ap (λ (h : WindowContents). h.kept) c.self.view_is in (
       into,
       c.in-Bytes.ensures.once,
       ap (λ (l : List ℕ). slice_range l w.start (w.end + n)) whole
@@ -74,7 +74,7 @@ returns-in_default-clause-took g c =
     let whole = lent w.bytes.items d into w.bytes.len w.end c.deref_mut.ensures.value len inside fits in
     let same = below w.bytes.items into w.start w.end w.end (length d - w.end) (omega arith) (omega arith) in
     let none = gives_nothing c.take-took.result into c.in_default.not-Bytes in
-    let kept = ap (λ (h : Held). h.kept) c.self.view_is in (
+    let kept = ap (λ (h : WindowContents). h.kept) c.self.view_is in (
       into,
       c.take-took.ensures.once,
       ap (λ (l : List ℕ). slice_range l w.start w.end) whole ∙ same ∙ kept ∙ sym (append-nil _) ∙ ap (λ (l : List ℕ). c.args.self.now.kept ++ l) (sym none),
@@ -84,4 +84,4 @@ pub returns-in_default-clause-text : goal.returns-in_default-clause-text
 returns-in_default-clause-text g c =
     λ none.
     let w = c.self.inside in
-    empty_range w.bytes.items _ w.text_start w.text_end (omega arith) (omega arith) (ap (λ (h : Held). h.text) c.self.view_is ∙ none)
+    empty_range w.bytes.items _ w.text_start w.text_end (omega arith) (omega arith) (ap (λ (h : WindowContents). h.text) c.self.view_is ∙ none)

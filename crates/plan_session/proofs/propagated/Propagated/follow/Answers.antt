@@ -1,6 +1,6 @@
 use Rattle.std.proofs.Common.{ℕ, sym, subst}
 use Rattle.parallel_rounds.specs.Propagated.{ending_of}
-use Rattle.support_records.specs.Followed.{IsFollowed}
+use Rattle.support_records.specs.FollowedStores.{IsFollowed}
 use Rattle.plan_session.specs.Sessions.{Opened, FollowsEdit}
 use Rattle.plan_session.proofs.SessionLemmas.{follows}
 use Rattle.plan_session.proofs.propagated.Propagated.follow.Goals as goal
@@ -15,4 +15,4 @@ returns g c =
     let after = c.propagate.new.store in
     let followed = subst (λ (before : Opened). IsFollowed old edit new before.support c.follow.new.self answer) c.self.view_is c.in_ok-withdrawn.ensures in
     subst (λ (n : ℕ). FollowsEdit old edit new c.args.self.now (record { support = after; ending = ending_of outcome }) (record { kept = answer.kept; withdrawn = answer.withdrawn; rounds = n })) (sym c.rounds_of-rounds.ensures)
-    (follows c.later_nodes_fall.ensures old edit new c.args.self.now c.follow.new.self after outcome answer followed c.in_ok-outcome.ensures)
+    (follows c.law_later_nodes_improve.ensures old edit new c.args.self.now c.follow.new.self after outcome answer followed c.in_ok-outcome.ensures)

@@ -1,7 +1,7 @@
 use Rattle.std.proofs.Common.{List, ap, sym, subst}
 use Rattle.net_model.specs.declared.ids.PointId.{PointId}
 use Rattle.parallel_rounds.specs.Propagated.{ending_of}
-use Rattle.refutations.specs.Certifying.{IsCertificateBy}
+use Rattle.refutation_certificates.specs.Certificates.{IsCertificateBy}
 use Rattle.plan_session.specs.Sessions.{Opens}
 use Rattle.plan_session.proofs.SessionLemmas.{closed_controls, refutes}
 use Rattle.plan_session.proofs.propagated.Propagated.refutation.Goals as goal
@@ -9,7 +9,7 @@ use Rattle.plan_session.proofs.propagated.Propagated.refutation.Goals as goal
 pub unreachable-requires : goal.unreachable-requires
 unreachable-requires c =
     let opens = subst (Opens c.args.net.now) (sym c.self.view_is) c.requires.opened in
-    c.requires.never (closed_controls c.args.net.now _ opens.sound c.ordered_closures_are_controllable.ensures (record { sound = c.sound.ensures; no_delay = c.requires.no_delay }) c.in-Closed.order (ap ending_of c.in-Closed.is))
+    c.requires.never (closed_controls c.args.net.now _ opens.sound c.law_ordered_closures_are_controllable.ensures (record { sound = c.sound.ensures; no_delay = c.requires.no_delay }) c.in-Closed.order (ap ending_of c.in-Closed.is))
 
 pub returns : goal.returns
 returns c =

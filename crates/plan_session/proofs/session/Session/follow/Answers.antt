@@ -14,7 +14,7 @@ returns-in-Ok-clause-answers g c =
     let shown_is : c.self.inside.shown ≡ shown_form old = c.self.invariant.shown_is ∙ ap (λ (session : SessionView). shown_form session.state.net) c.self.view_is in
     let sound = opened_sound c.self.inside.shown c.self.inside.opened held c.in-Some.is c.self.invariant.sound in
     let both =
-    shown_follows c.edits_withdraw_nodes.ensures c.shown_forms_follow_edits.ensures old c.args.edit.now new plan c.requires.plan c.requires.made c.self.inside.shown c.args.shown.now held c.follow.new.self c.in-Ok.report shown_is
+    shown_follows c.law_edits_withdraw_nodes.ensures c.law_shown_forms_follow_edits.ensures old c.args.edit.now new plan c.requires.plan c.requires.made c.self.inside.shown c.args.shown.now held c.follow.new.self c.in-Ok.report shown_is
     c.requires.shown sound c.in-Ok.ensures in
     record {
       net = new;

@@ -1,7 +1,7 @@
 use Rattle.std.proofs.Common.{ap, sym, ◌∙◌, subst}
 use Rattle.net_model.specs.Network.{Plan}
 use Rattle.net_model.specs.ShownForm.{shown_form}
-use Rattle.plan_session.specs.Sessions.{SessionView, IsSound}
+use Rattle.plan_session.specs.Sessions.{SessionView, IsSoundOpened}
 use Rattle.plan_session.proofs.SessionLemmas.{opened_sound}
 use Rattle.plan_session.proofs.session.Session.store.Goals as goal
 
@@ -12,5 +12,5 @@ returns c =
       opened = c.in-Some.opened;
       is = ap (λ (session : SessionView). session.state.opened) (sym c.self.view_is) ∙ c.in-Some.is;
       support_is = c.store.ensures;
-      sound = subst (λ (net : Plan). IsSound net c.in-Some.opened) shown_is (opened_sound c.self.inside.shown c.self.inside.opened c.in-Some.opened c.in-Some.is c.self.invariant.sound);
+      sound = subst (λ (net : Plan). IsSoundOpened net c.in-Some.opened) shown_is (opened_sound c.self.inside.shown c.self.inside.opened c.in-Some.opened c.in-Some.is c.self.invariant.sound);
     }

@@ -3,9 +3,9 @@ use Rattle.std.specs.Prelude.{take}
 use Rattle.std.specs.List.{All}
 use Rattle.net_model.specs.declared.ids.PointId.{PointId}
 use Rattle.execution_model.specs.Earliest.{FeedsEarliest}
-use Rattle.execution_model.specs.Feeding.{IsFed}
-use Rattle.sensor_desk.specs.declared.followed.Followed.TheVariants as followed
-use Rattle.sensor_desk.proofs.FollowingLemmas.{fed_for, followed_by, points_inside}
+use Rattle.execution_model.specs.Feeds.{IsFed}
+use Rattle.sensor_desk.specs.declared.follow_result.Followed.TheVariants as followed
+use Rattle.sensor_desk.proofs.FollowerLemmas.{fed_for, followed_by, points_inside}
 use Rattle.sensor_desk.proofs.desk.Desk.follow.Goals as goal
 
 pub feed-requires : goal.feed-requires

@@ -13,7 +13,7 @@ returns-clause-left c =
     subst (λ (p : About × View). IsLeft p.0 p.1 (slots_items c.close_with.result.words)) (λ i. ((c.self.view_is i).about, (c.seat.view_is i).view))
     (record {
       state = final.0;
-      led = final.1.0;
+      reached = final.1.0;
       last = final.2;
       seat = place.id;
       at = final.1.1 ∙ ap some (λ i. (c.seat.invariant.live i).0);

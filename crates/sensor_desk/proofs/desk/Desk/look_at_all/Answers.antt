@@ -1,5 +1,5 @@
 use Rattle.std.proofs.Common.{◌∙◌, arith}
-use Rattle.sensor_desk.proofs.FollowingLemmas.{findings_more, room_for, sees_seat}
+use Rattle.sensor_desk.proofs.FollowerLemmas.{findings_more, capacity_for, sees_seat}
 use Rattle.sensor_desk.proofs.OpenLemmas.{point_at}
 use Rattle.sensor_desk.proofs.desk.Desk.look_at_all.Goals as goal
 
@@ -7,7 +7,7 @@ pub take_in-findings-requires : goal.take_in-findings-requires
 take_in-findings-requires c = record {
   room = λ now_at.
       let less =
-      room_for c.args.net.now c.args.executor.now.moments c.args.moment c.args.seat.now c.loop-number.number c.loop-number.seat c.look_at-found.new.seat c.points.ensures.sound c.loop-number.room
+      capacity_for c.args.net.now c.args.executor.now.moments c.args.moment c.args.seat.now c.loop-number.number c.loop-number.seat c.look_at-found.new.seat c.points.ensures.sound c.loop-number.room
       c.loop-number.findings.late c.loop-number.findings.count c.loop-number.invariant.findings c.look_at-found.result c.look_at-found.ensures now_at in
       let room = c.requires.room in
       let same = c.loop-number.invariant.room in

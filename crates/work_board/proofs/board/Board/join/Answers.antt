@@ -1,5 +1,5 @@
 use Rattle.std.proofs.Common.{rules, ◌<◌, subst, sym}
-use Rattle.work_board.specs.Boards.{SeatSeen}
+use Rattle.work_board.specs.Boards.{BoardSeatSeen}
 use Rattle.work_board.specs.Seats.{view_of}
 use Rattle.work_board.proofs.TableLemmas.{joins}
 use Rattle.work_board.proofs.board.Board.join.Goals as goal
@@ -8,7 +8,7 @@ pub join_seat-requires : goal.join_seat-requires
 join_seat-requires c =
     let into = c.into.inside.place in
     let from = c.from.inside.place in
-    let out = subst (λ (s : SeatSeen). 0 < s.view.out) (sym c.into.view_is) c.requires.out in (
+    let out = subst (λ (s : BoardSeatSeen). 0 < s.view.out) (sym c.into.view_is) c.requires.out in (
       search rules,
       search rules,
       (λ i. (c.from.invariant.live i).1),

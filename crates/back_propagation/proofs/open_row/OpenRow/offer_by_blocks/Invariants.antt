@@ -1,9 +1,0 @@
-use Rattle.std.proofs.Common.{◌-◌, length}
-use Rattle.back_propagation.proofs.BlockSteps.{IsOfferedTo}
-use Rattle.back_propagation.proofs.open_row.OpenRow.offer_by_blocks.Given as goal
-
-abbrev pub invariant-loop-at : goal.invariant-loop-at
-invariant-loop-at l = IsOfferedTo l.edge l.entries l.at l.fn.self l.self
-
-abbrev pub decreases-loop-at : goal.decreases-loop-at
-decreases-loop-at l = length l.entries - l.at

@@ -1,7 +1,0 @@
-use Rattle.std.proofs.Common.{take}
-use Rattle.std.specs.List.{flat_map}
-use Rattle.back_propagation.specs.BestWays.{way_after, HasTaken}
-use Rattle.back_propagation.proofs.open_row.OpenRow.offer_ways_over.Given as goal
-
-abbrev pub invariant-loop-first : goal.invariant-loop-first
-invariant-loop-first l = HasTaken l.fn.ways l.ways (flat_map (way_after l.table l.self.width l.edge l.column) (take l.first-index l.firsts))

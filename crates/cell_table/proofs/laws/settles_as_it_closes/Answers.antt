@@ -1,5 +1,0 @@
-use Rattle.cell_table.proofs.LawLemmas.{settles_as_it_closes as proof}
-use Rattle.cell_table.proofs.laws.settles_as_it_closes.Goals as goal
-
-pub returns : goal.returns
-returns c = proof

@@ -1,8 +1,0 @@
-use Rattle.std.proofs.Common.{◌≡◌, ℕ, ◌<◌, false, get_or}
-use Rattle.cert_checker.specs.declared.few.Start.{Start}
-use Rattle.cert_checker.specs.Least.{absent, falls}
-use Rattle.cert_checker.proofs.row.few_fall_in.Given as goal
-
--- none of those so far falls
-abbrev pub invariant-loop-start : goal.invariant-loop-start
-invariant-loop-start l = (k : ℕ) (d : Start) → k < l.start-index → falls (get_or l.start-items k d).word (get_or l.there (get_or l.start-items k d).from absent) l.second.weight ≡ false

@@ -1,0 +1,5 @@
+use Rattle.cert_format.proofs.OnceLemmas.{one_reading}
+use Rattle.cert_format.proofs.laws.law_lines_have_one_reading.Goals as goal
+
+pub returns : goal.returns
+returns c = λ lines. one_reading lines

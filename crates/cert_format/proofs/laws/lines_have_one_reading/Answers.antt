@@ -1,5 +1,0 @@
-use Rattle.cert_format.proofs.OnceLemmas.{one_reading}
-use Rattle.cert_format.proofs.laws.lines_have_one_reading.Goals as goal
-
-pub returns : goal.returns
-returns c = λ lines. one_reading lines

@@ -1,3 +1,0 @@
-pub mod CertificateLemmas
-pub mod StrongLemmas
-pub mod ProofLemmas

@@ -1,5 +1,0 @@
-pub mod CertificateTexts
-pub mod CertificateInputs
-pub mod StrongTexts
-pub mod StrongInputs
-pub mod ProofInputs

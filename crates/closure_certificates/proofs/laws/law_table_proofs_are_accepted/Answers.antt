@@ -1,0 +1,5 @@
+use Rattle.closure_certificates.proofs.LawProofs.{law_table_proofs_are_accepted}
+use Rattle.closure_certificates.proofs.laws.law_table_proofs_are_accepted.Goals as goal
+
+pub returns : goal.returns
+returns c = law_table_proofs_are_accepted

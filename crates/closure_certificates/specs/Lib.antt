@@ -1,0 +1,3 @@
+pub mod TableProofs
+pub mod Laws
+pub mod Certified

@@ -1,5 +1,0 @@
-use Rattle.closure_model.proofs.LawProofs.{base_stands_law}
-use Rattle.closure_model.proofs.laws.base_stands.Goals as goal
-
-pub returns : goal.returns
-returns c = base_stands_law

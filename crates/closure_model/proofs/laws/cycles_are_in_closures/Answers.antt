@@ -1,6 +1,0 @@
--- Each key of the closure has its least derivable weight.
-use Rattle.closure_model.proofs.RoundsEndings.{cycles_are_in_closures as proof}
-use Rattle.closure_model.proofs.laws.cycles_are_in_closures.Goals as goal
-
-pub returns : goal.returns
-returns c = proof

@@ -1,0 +1,5 @@
+use Rattle.closure_model.proofs.LawProofs.{law_derivable_are_bounded}
+use Rattle.closure_model.proofs.laws.law_derivable_are_bounded.Goals as goal
+
+pub returns : goal.returns
+returns c = law_derivable_are_bounded

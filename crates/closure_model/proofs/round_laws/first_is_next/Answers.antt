@@ -1,6 +1,0 @@
--- The first of the least is the only one that is it.
-use Rattle.closure_model.proofs.FirstLeast.{first_is_next as proof}
-use Rattle.closure_model.proofs.round_laws.first_is_next.Goals as goal
-
-pub returns : goal.returns
-returns c = proof

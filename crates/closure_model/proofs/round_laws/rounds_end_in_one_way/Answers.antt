@@ -1,6 +1,0 @@
--- Each step of the definition excludes the others.
-use Rattle.closure_model.proofs.RoundsLaw.{rounds_end_in_one_way as proof}
-use Rattle.closure_model.proofs.round_laws.rounds_end_in_one_way.Goals as goal
-
-pub returns : goal.returns
-returns c = proof

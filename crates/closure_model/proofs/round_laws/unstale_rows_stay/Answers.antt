@@ -1,6 +1,0 @@
--- A row needs only the rows of points from which a negative ordinary edge goes to its target.
-use Rattle.closure_model.proofs.FewRounds.{unstale_rows_stay as proof}
-use Rattle.closure_model.proofs.round_laws.unstale_rows_stay.Goals as goal
-
-pub returns : goal.returns
-returns c = proof

@@ -1,0 +1,16 @@
+pub mod DecidedLemmas
+pub mod PlanQuestionLemmas
+pub mod ProgramLemmas
+pub mod KeptLemmas
+pub mod ExactLemmas
+pub mod CauseLemmas
+pub mod StatusLemmas
+pub mod CountLemmas
+pub mod OperandLemmas
+pub mod PlaceLemmas
+pub mod UseLemmas
+pub mod WorkersLemmas
+pub mod FormWordLemmas
+pub mod SameLemmas
+pub mod NothingLemmas
+pub mod PointTextLemmas

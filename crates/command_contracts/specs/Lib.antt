@@ -1,0 +1,9 @@
+pub mod Programs
+pub mod ExactBytes
+pub mod Causes
+pub mod Statuses
+pub mod PlanWords
+pub mod PlanQuestions
+pub mod Counts
+pub mod Requests
+pub mod WorkerCounts

@@ -1,6 +1,0 @@
-use Rattle.command_engine.proofs.AskedLemmas.{wants_before_answer}
-use Rattle.command_engine.proofs.laws.asked_wants.Goals as goal
-
-pub returns : goal.returns
-returns g c = λ question text input untaken put pieces breaks.
-    wants_before_answer g.Q.Question.answers g.T.Text.reader g.T.Fault.Refusal.refusing question text input untaken put pieces breaks

@@ -1,9 +1,0 @@
-pub mod Programs
-pub mod ExactBytes
-pub mod Causes
-pub mod Statuses
-pub mod PlanWords
-pub mod PlanAsking
-pub mod Counts
-pub mod Requests
-pub mod Workers

@@ -1,3 +1,0 @@
-/// How a run ended: the exit status of the program, from 0 to 8.
-#[derive(Clone, Copy, Debug, PartialEq, Eq, Hash)]
-pub struct Status(pub u8);

@@ -1,7 +1,0 @@
-use Rattle.command_table.proofs.laws.runs_refuse_exactly_words_outside_the_table.Goals as goal
-
-pub returns : goal.returns
-returns c = λ words status before after caused. record {
-  only = λ two. (c.words_are_refused_outside_the_table.ensures words).0 (caused.words two);
-  there = λ outside. caused.no_words ((c.words_are_refused_outside_the_table.ensures words).1 outside);
-}

@@ -1,5 +1,0 @@
-use Rattle.deadline_command.proofs.DeadlineWordLemmas.{workers_decide_no_deadline}
-use Rattle.deadline_command.proofs.asking.AskDeadlineRequest.workers_decide_nothing.Goals as goal
-
-pub returns : goal.returns
-returns c = workers_decide_no_deadline

@@ -1,5 +1,0 @@
-use Rattle.deadline_command.proofs.DeadlineWordLemmas.{deadline_exactly}
-use Rattle.deadline_command.proofs.laws.deadline_is_read_exactly.Goals as goal
-
-pub returns : goal.returns
-returns c = deadline_exactly

@@ -1,0 +1,156 @@
+//! The search for the least deadline: from a guess down or up, by steps that double, and then by
+//! halving.
+
+ghost use Rattle.std.specs.Prelude.{pos, ◌+ℤ◌, ◌≤ℤ◌, ◌<ℤ◌, IfOk};
+ghost use Rattle.deadline_search.specs.Deadlines.{IsDeadline, lowest, highest};
+ghost use Rattle.deadline_search.specs.Trials.{IsFoundDeadline, IsKeptDeadline, IsLastKept};
+ghost use Rattle.deadline_search.specs.Trials.{IsSearch, widest};
+
+use crate::goal::{HIGHEST, LOWEST};
+use crate::goal_search::{Kept, Search};
+use net_model::Weight;
+use parallel_rounds::Gate;
+use std::alloc::{AllocError, Global};
+use std::thread::Threads;
+
+/// The greatest step: from it on every number is in reach.
+const WIDEST: Weight = HIGHEST - LOWEST;
+
+/// Twice a step, as far as there is need.
+fn doubled(step: Weight) -> Weight
+    requires { (pos 1 ≤ℤ step) × (step ≤ℤ widest) }
+    ensures { (pos 1 ≤ℤ result) × (result ≤ℤ widest) }
+{
+    (step * 2).min(WIDEST)
+}
+
+/// The next number to try above one that is no deadline.
+fn higher(failed: Weight, step: Weight) -> Weight
+    requires low { lowest ≤ℤ failed }
+    requires spare_capacity { failed <ℤ highest }
+    requires step { (pos 1 ≤ℤ step) × (step ≤ℤ widest) }
+    ensures above { failed <ℤ result }
+    ensures high { result ≤ℤ highest }
+{
+    (failed + step).min(HIGHEST)
+}
+
+/// The next number to try below one that is a deadline.
+fn lower(kept: Weight, step: Weight) -> Weight
+    requires spare_capacity { lowest <ℤ kept }
+    requires high { kept ≤ℤ highest }
+    requires step { (pos 1 ≤ℤ step) × (step ≤ℤ widest) }
+    ensures below { result <ℤ kept }
+    ensures low { lowest ≤ℤ result }
+{
+    (kept - step).max(LOWEST)
+}
+
+/// The next number to try between one that is no deadline and one that is.
+fn middle(failed: Weight, kept: Weight) -> Weight
+    requires low { lowest ≤ℤ failed }
+    requires high { kept ≤ℤ highest }
+    requires apart { (failed +ℤ pos 1) <ℤ kept }
+    ensures above { failed <ℤ result }
+    ensures below { result <ℤ kept }
+{
+    failed + (kept - failed) / 2
+}
+
+impl Search {
+    /// The least deadline, or `None` if there is none, from a guess: if that is the least, it and
+    /// the number before are all that is tried.
+    pub fn least<R: Threads + Sync, G: Gate>(
+        &self,
+        rt: &R,
+        alloc: Global,
+        gate: &G,
+        guess: Weight,
+    ) -> Result<Option<Kept>, AllocError>
+        requires search { IsSearch self.now }
+        requires low { lowest ≤ℤ guess }
+        requires high { guess ≤ℤ highest }
+        ensures { IfOk result (IsFoundDeadline self.now.net self.now.goal) }
+    {
+        match self.tried(rt, alloc, gate, guess)? {
+            Some(kept) => Ok(Some(self.below(rt, alloc, gate, kept)?)),
+            None => self.above(rt, alloc, gate, guess),
+        }
+    }
+
+    /// The least deadline, at or below one.
+    fn below<R: Threads + Sync, G: Gate>(
+        &self,
+        rt: &R,
+        alloc: Global,
+        gate: &G,
+        mut kept: Kept,
+    ) -> Result<Kept, AllocError>
+        requires search { IsSearch self.now }
+        requires kept { IsKeptDeadline self.now.net self.now.goal kept }
+        ensures { IfOk result (IsLastKept self.now.net self.now.goal) }
+    {
+        let mut step = 1;
+        while kept.most > LOWEST {
+            let next = lower(kept.most, step);
+            match self.tried(rt, alloc, gate, next)? {
+                Some(found) => kept = found,
+                None => return self.between(rt, alloc, gate, next, kept),
+            }
+            step = doubled(step);
+        }
+        Ok(kept)
+    }
+
+    /// The least deadline, above a number that is none, or `None` if there is none.
+    fn above<R: Threads + Sync, G: Gate>(
+        &self,
+        rt: &R,
+        alloc: Global,
+        gate: &G,
+        mut failed: Weight,
+    ) -> Result<Option<Kept>, AllocError>
+        requires search { IsSearch self.now }
+        requires low { lowest ≤ℤ failed }
+        requires high { failed ≤ℤ highest }
+        requires none { ¬ IsDeadline self.now.net self.now.goal failed }
+        ensures { IfOk result (IsFoundDeadline self.now.net self.now.goal) }
+    {
+        let mut step = 1;
+        while failed < HIGHEST {
+            let next = higher(failed, step);
+            if let Some(kept) = self.tried(rt, alloc, gate, next)? {
+                return Ok(Some(self.between(rt, alloc, gate, failed, kept)?));
+            }
+            failed = next;
+            step = doubled(step);
+        }
+        Ok(None)
+    }
+
+    /// The least deadline, above a number that is none and at or below one that is.
+    fn between<R: Threads + Sync, G: Gate>(
+        &self,
+        rt: &R,
+        alloc: Global,
+        gate: &G,
+        mut failed: Weight,
+        mut kept: Kept,
+    ) -> Result<Kept, AllocError>
+        requires search { IsSearch self.now }
+        requires low { lowest ≤ℤ failed }
+        requires apart { failed <ℤ kept.most }
+        requires none { ¬ IsDeadline self.now.net self.now.goal failed }
+        requires kept { IsKeptDeadline self.now.net self.now.goal kept }
+        ensures { IfOk result (IsLastKept self.now.net self.now.goal) }
+    {
+        while kept.most - failed > 1 {
+            let next = middle(failed, kept.most);
+            match self.tried(rt, alloc, gate, next)? {
+                Some(found) => kept = found,
+                None => failed = next,
+            }
+        }
+        Ok(kept)
+    }
+}

@@ -1,7 +1,0 @@
--- The node that a list tells is the one of the definition.
-use Rattle.std.proofs.Common.{sym}
-use Rattle.closure_model.proofs.RoundLaw.{node_for_is}
-use Rattle.derivation_dag.proofs.made.node_of.Goals as goal
-
-pub returns : goal.returns
-returns c = sym (node_for_is c.args.list.now c.args.edge.now c.newest.result c.newest.ensures)

@@ -1,5 +1,0 @@
-use Rattle.derivation_edits.proofs.BroughtLemmas.{edits_bring_bounds}
-use Rattle.derivation_edits.proofs.laws.edits_bring_bounds.Goals as goal
-
-pub returns : goal.returns
-returns c = edits_bring_bounds

@@ -1,5 +1,0 @@
-use Rattle.derivation_edits.proofs.TakenLemmas.{edits_take_bounds}
-use Rattle.derivation_edits.proofs.laws.edits_take_bounds.Goals as goal
-
-pub returns : goal.returns
-returns c = edits_take_bounds

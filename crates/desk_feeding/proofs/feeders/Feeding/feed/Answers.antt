@@ -1,0 +1,20 @@
+use Rattle.std.proofs.Common.{rules, ◌≡◌, List, sym, subst, ap, ◌∙◌}
+use Rattle.net_model.specs.declared.ids.PointId.{PointId}
+use Rattle.desk_feeding.specs.Ordered.{IsInOrder}
+use Rattle.desk_feeding.proofs.FedLemmas.{ordered_points, may_feed, fed_in_order}
+use Rattle.desk_feeding.proofs.feeders.Feeding.feed.Goals as goal
+
+pub links_of-all-requires-clause-points : goal.links_of-all-requires-clause-points
+links_of-all-requires-clause-points g c =
+    let is = subst (IsInOrder c.args.listed.now) (sym c.as_slice.ensures.value) c.fill_in_order.ensures.order in
+    ordered_points c.args.listed.now c.as_slice.result.now is c.args.net.now c.requires.listed.0
+
+pub feed-requires : goal.feed-requires
+feed-requires g c =
+    let ordered = c.fill_in_order.new.into.items in
+    may_feed c.args.listed.now ordered c.fill_in_order.ensures.order c.args.net.now c.args.executor.now c.requires.executor c.requires.listed.0 c.first_where_same.result.now (search rules)
+
+pub returns-clause-fed : goal.returns-clause-fed
+returns-clause-fed g c =
+    let ordered = c.fill_in_order.new.into.items in
+    fed_in_order c.args.listed.now ordered c.fill_in_order.ensures.order c.args.executor.now c.args.moment c.first_where_same.result.now (search rules) c.feed.result c.feed.new.self c.feed.ensures.fed

@@ -1,8 +1,0 @@
-use Rattle.std.proofs.Common.{◌<◌, length, rules, sym, subst}
-use Rattle.dispatch_net.specs.Held.{AreInOrder}
-use Rattle.dispatch_net.proofs.held.Held.is_over_point.Goals as goal
-
-pub is_through_point-requires : goal.is_through_point-requires
-is_through_point-requires c =
-    let inside : c.args.other.0.0 < length c.self.inside.lists.items = search rules in
-    subst AreInOrder (sym c.index.ensures) (c.self.invariant.in_order c.args.other.0.0 c.index.result.now inside)

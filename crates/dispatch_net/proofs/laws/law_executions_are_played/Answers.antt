@@ -1,0 +1,5 @@
+use Rattle.dispatch_net.proofs.ExecutionLemmas.{law_executions_are_played}
+use Rattle.dispatch_net.proofs.laws.law_executions_are_played.Goals as goal
+
+pub returns : goal.returns
+returns c = law_executions_are_played

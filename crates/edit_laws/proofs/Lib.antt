@@ -1,0 +1,16 @@
+pub mod MovedRules
+pub mod Prefixes
+pub mod MovedPremises
+pub mod KeptNodes
+pub mod KeptDerived
+pub mod FollowedSupport
+pub mod Places
+pub mod ByNames
+pub mod NewBase
+pub mod Gaps
+pub mod LastingParts
+pub mod EditedParts
+pub mod TakenLemmas
+pub mod BroughtLemmas
+pub mod WithdrawnLemmas
+pub mod SameParts

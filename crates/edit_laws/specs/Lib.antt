@@ -1,0 +1,4 @@
+pub mod KeptLists
+pub mod KeptListLaws
+pub mod EditNumbers
+pub mod EditEffects

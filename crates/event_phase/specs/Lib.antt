@@ -1,0 +1,10 @@
+pub mod CompletionOrders
+pub mod EventRuns
+pub mod EventAnswers
+pub mod EventPhase
+pub mod ExecutionStart
+pub mod Due
+pub mod Day
+pub mod StatedDay
+pub mod EventFaults
+pub mod ExecutionPromise

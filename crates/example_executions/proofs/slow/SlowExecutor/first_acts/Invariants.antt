@@ -1,7 +1,0 @@
-use Rattle.std.proofs.Common.{◌≡◌, ℕ, ◌<◌, ◌≤◌, []}
-use Rattle.execution_model.specs.Execution.{acts_at}
-use Rattle.execution_model.specs.Feeding.{next_moment}
-use Rattle.example_executions.proofs.slow.SlowExecutor.first_acts.Given as goal
-
-abbrev pub invariant-loop-t : goal.invariant-loop-t
-invariant-loop-t l = (u : ℕ) → next_moment l.self ≤ u → u < l.t → acts_at l.self.setting l.self.moments u ≡ []

@@ -1,8 +1,0 @@
-use Rattle.std.proofs.Common.{◌≡◌, map}
-use Rattle.std.specs.List.{filter_map, range_with_len}
-use Rattle.example_references.specs.Listed.{table_in}
-use Rattle.example_references.specs.RowParts.{ordinary_at}
-use Rattle.example_references.proofs.deducing.ordinary_into.Given as goal
-
-abbrev pub invariant-loop-from : goal.invariant-loop-from
-invariant-loop-from l = l.edges.items ≡ filter_map (ordinary_at (table_in l.net l.nodes) l.to) (map (λ k. record { 0 = k }) (range_with_len 0 l.from))

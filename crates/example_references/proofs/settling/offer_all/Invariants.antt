@@ -1,6 +1,0 @@
-use Rattle.std.proofs.Common.{◌≡◌, fold, take}
-use Rattle.closure_model.specs.ReferenceRow.{offered}
-use Rattle.example_references.proofs.settling.offer_all.Given as goal
-
-abbrev pub invariant-loop-one : goal.invariant-loop-one
-invariant-loop-one l = l.slots ≡ fold offered l.fn.slots (take l.one-index l.made)

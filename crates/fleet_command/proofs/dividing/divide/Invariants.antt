@@ -1,9 +1,0 @@
-use Rattle.std.proofs.Common.{◌≡◌}
-use Rattle.fleet_command.specs.Dividing.{entries_of, nets_in}
-use Rattle.fleet_command.proofs.dividing.divide.Given as goal
-
-abbrev pub invariant-loop-plan : goal.invariant-loop-plan
-invariant-loop-plan l = record {
-  entries : l.entries.items ≡ entries_of 0 l.yielded;
-  nets : l.nets.items ≡ nets_in l.yielded;
-}

@@ -1,0 +1,12 @@
+pub mod BuiltPlans
+pub mod PlanTexts
+pub mod PlanText
+pub mod DocumentSoFar
+pub mod DocumentTexts
+pub mod PlanDocument
+pub mod PlanInput
+pub mod CertificateTexts
+pub mod CertificateInputs
+pub mod StrongTexts
+pub mod StrongInputs
+pub mod ProofInputs

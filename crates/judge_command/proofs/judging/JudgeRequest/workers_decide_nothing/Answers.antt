@@ -1,5 +1,0 @@
-use Rattle.judge_command.proofs.JudgeWordLemmas.{workers_decide_no_judging}
-use Rattle.judge_command.proofs.judging.JudgeRequest.workers_decide_nothing.Goals as goal
-
-pub returns : goal.returns
-returns c = workers_decide_no_judging

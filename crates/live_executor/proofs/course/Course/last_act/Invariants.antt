@@ -1,6 +1,0 @@
-use Rattle.std.proofs.Common.{◌≡◌, drop}
-use Rattle.execution_model.specs.Feeding.{last_of}
-use Rattle.live_executor.proofs.course.Course.last_act.Given as goal
-
-abbrev pub invariant-loop-act : goal.invariant-loop-act
-invariant-loop-act l = last_of l.fn.last l.self.acts ≡ last_of l.latest (drop l.act-index l.act-items)

@@ -1,9 +1,0 @@
-//! A quick test for networks that no strategy controls: whether the situation in which every link takes its longest duration excludes every
-//! schedule.
-#![tactic(auto)]
-
-mod longest;
-mod searching;
-mod walking;
-
-pub use longest::is_excluded_at_longest;

@@ -1,0 +1,5 @@
+pub mod NamedLineLemmas
+pub mod ProjectionLemmas
+pub mod AloneLemmas
+pub mod SingleLemmas
+pub mod StartLemmas

@@ -1,5 +1,0 @@
-use Rattle.net_model.proofs.ShownLemmas.{shown_near}
-use Rattle.net_model.proofs.laws.shown_numbers_are_near.Goals as goal
-
-pub returns : goal.returns
-returns c = shown_near

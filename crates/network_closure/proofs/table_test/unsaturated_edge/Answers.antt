@@ -1,0 +1,9 @@
+use Rattle.std.proofs.lemmas.Result.{IfOk-weaker}
+use Rattle.network_closure.specs.Saturation.{TestsTo}
+use Rattle.network_closure.proofs.CopyLemmas.{tested_dense}
+use Rattle.network_closure.proofs.table_test.unsaturated_edge.Goals as goal
+
+pub returns : goal.returns
+returns g c =
+    IfOk-weaker c.unsaturated.result (TestsTo c.args.net.now c.in_ok-dense.dense) (TestsTo c.args.net.now c.args.table.now)
+    (λ found. tested_dense c.args.net.now c.args.table.now c.in_ok-dense.dense found c.requires.partial_closure c.in_ok-dense.ensures) c.unsaturated.ensures

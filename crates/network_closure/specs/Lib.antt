@@ -1,0 +1,4 @@
+pub mod Saturation
+pub mod Dense
+pub mod Laws
+pub mod Progress

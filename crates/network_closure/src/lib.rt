@@ -1,0 +1,18 @@
+//! The closed table of a network and its order, without rounds: a dense table is relaxed in place,
+//! and then tested.
+#![tactic(auto)]
+
+mod closure;
+mod consequences;
+mod dense;
+mod dense_copies;
+mod depth_first;
+pub mod laws;
+mod relaxation;
+mod shared_test;
+mod table_test;
+mod unsaturated_edges;
+
+pub use closure::{Closed, close};
+pub use consequences::{after, over_link, without_label};
+pub use table_test::unsaturated_edge;

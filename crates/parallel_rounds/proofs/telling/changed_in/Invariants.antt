@@ -1,6 +1,0 @@
-use Rattle.std.proofs.Common.{◌≡◌, take}
-use Rattle.parallel_rounds.specs.Telling.{changed_in}
-use Rattle.parallel_rounds.proofs.telling.changed_in.Given as goal
-
-abbrev pub invariant-loop-row : goal.invariant-loop-row
-invariant-loop-row l = l.changed.items ≡ changed_in (take l.row-index l.rows)

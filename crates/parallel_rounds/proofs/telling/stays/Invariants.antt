@@ -1,7 +1,0 @@
-use Rattle.std.proofs.Common.{ℕ, ◌<◌, get_or}
-use Rattle.closure_model.specs.declared.rows.Made.{Made}
-use Rattle.loop_finder.specs.Kept.{GoesAlong}
-use Rattle.parallel_rounds.proofs.telling.stays.Given as goal
-
-abbrev pub invariant-loop-place : goal.invariant-loop-place
-invariant-loop-place l = (k : ℕ) (d : Made) → k < l.place → GoesAlong l.order (get_or l.made k d).edge

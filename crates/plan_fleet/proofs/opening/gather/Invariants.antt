@@ -1,6 +1,0 @@
-use Rattle.std.specs.List.{AllZip}
-use Rattle.plan_fleet.specs.Openings.{OpensDecided}
-use Rattle.plan_fleet.proofs.opening.gather.Given as goal
-
-abbrev pub invariant-loop-one : goal.invariant-loop-one
-invariant-loop-one l = AllZip OpensDecided l.yielded l.members.items

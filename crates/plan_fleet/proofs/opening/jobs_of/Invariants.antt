@@ -1,9 +1,0 @@
-use Rattle.std.proofs.Common.{◌≡◌, length}
-use Rattle.plan_fleet.specs.Openings.{nets_of, nets_given}
-use Rattle.plan_fleet.proofs.opening.jobs_of.Given as goal
-
-abbrev pub invariant-loop-plan : goal.invariant-loop-plan
-invariant-loop-plan l = record {
-  nets : nets_of l.jobs.items ≡ nets_given l.yielded;
-  count : length l.jobs.items ≡ length l.yielded;
-}

@@ -1,0 +1,52 @@
+-- How the plans of a fleet are opened: each is decided by the closed table of its shown form, and then its execution is started.
+use Rattle.std.specs.Prelude.{◌≡◌, ℕ, ◌<◌, List, length, map, Option, Some, None, Result, Ok, Err, IfOk, slice_index_or}
+use Rattle.std.specs.List.{All}
+use Rattle.net_model.specs.Network.{Plan}
+use Rattle.net_model.specs.ShownForm.{shown_form}
+use Rattle.execution_model.specs.Feeds.{Execution, started}
+use Rattle.execution_model.specs.Laws.{setting_of}
+use Rattle.network_closure.specs.Saturation.{ClosesTo, IsClosedBy, HasDerivableCycle}
+use Rattle.network_closure.specs.declared.closure.Closed.{Closed}
+use Rattle.plan_fleet.specs.FleetPlans.{FleetPlan, OpensTo}
+use Rattle.plan_fleet.specs.declared.fleet_start.Decided.{Decided}
+use Rattle.plan_fleet.specs.declared.fleet_start.Job.{Job}
+
+-- the networks of jobs, and those that were given under names
+abbrev pub nets_of : List Job → List Plan
+nets_of jobs = map (λ (job : Job). job.net) jobs
+
+abbrev pub nets_given : {N : Type 0} → List (N × Plan) → List Plan
+nets_given plans = map (λ plan. plan.1) plans
+
+-- the table of its shown form was closed
+pub record IsDecided (decided : Decided) : Type 0 where
+  pub shown : decided.shown ≡ shown_form decided.net
+  pub closes : ClosesTo decided.shown decided.closed
+
+-- an execution of a network is started by its closed table
+pub record StartsBy (net : Plan) (closed : Closed) (execution : Execution) : Type 0 where
+  pub closes : IsClosedBy net closed
+  pub starts : execution ≡ started (setting_of net closed.table)
+
+-- it is started if there is a closed table with an order; else the network has a cycle
+abbrev pub StartsWhere : Plan → Option Execution → Type 0
+StartsWhere net (Some execution) = (closed : Closed) × StartsBy net closed execution
+StartsWhere net None = HasDerivableCycle net
+
+-- this network was decided
+abbrev pub DecidesTo : Plan → Decided → Type 0
+DecidesTo net decided = (decided.net ≡ net) × IsDecided decided
+
+-- all were, each at its place, if memory was not refused
+abbrev pub DecidesEach : {E : Type 0} → List Job → List (Result Decided E) → Type 0
+DecidesEach {E} jobs all =
+    (place : ℕ) (job : Job) (one : Result Decided E) → place < length jobs
+    → IfOk (slice_index_or all place one) (DecidesTo (slice_index_or jobs place job).net)
+
+abbrev pub AllDecided : {E : Type 0} → List (Result Decided E) → Type 0
+AllDecided {E} all = All (λ (one : Result Decided E). IfOk one IsDecided) all
+
+-- a plan is opened by what was decided
+abbrev pub OpensDecided : {E : Type 0} → Result Decided E → FleetPlan → Type 0
+OpensDecided (Ok decided) member = OpensTo decided.net member
+OpensDecided (Err error) member = ⊥

@@ -1,0 +1,165 @@
+//! How the plans of a fleet are opened: decided side by side, and then started one after another.
+
+ghost use Rattle.std.specs.Prelude.{◌≡◌, ◌≤◌, length, map, IfOk};
+ghost use Rattle.std.specs.List.{AllZip};
+ghost use Rattle.net_model.specs.ShownForm.{shown_form};
+ghost use Rattle.strategy_model.specs.Plays.{IsInstant};
+ghost use Rattle.network_closure.specs.Saturation.{ClosesTo, IsClosedBy};
+ghost use Rattle.plan_fleet.specs.FleetPlans.{OpensTo, state_at_first};
+ghost use Rattle.plan_fleet.specs.Limits.{most_plans};
+ghost use Rattle.plan_fleet.specs.FleetStart.{AllDecided, DecidesEach, DecidesTo, IsDecided};
+ghost use Rattle.plan_fleet.specs.FleetStart.{OpensDecided, StartsBy, StartsWhere, nets_of};
+ghost use Rattle.plan_fleet.specs.FleetStart.{nets_given};
+
+use crate::fleet_plan::FleetPlan;
+use crate::states::State;
+use closure_laws::laws::{law_cycles_of_tables_exclude, law_ordered_closures_are_controllable};
+use dispatch_net::Dispatch;
+use live_executor::Executor;
+use net_model::{Name, Network};
+use network_closure::{Closed, close};
+use parallel_rounds::Gate;
+use std::alloc::{AllocError, Global};
+use std::thread::{Threads, map_vec};
+use strategy_model::laws::shown::{law_controllable_is_shown, law_shown_form_is_instant};
+
+/// A plan that is to be decided, and its place in the fleet.
+#[derive(Drop)]
+pub(crate) struct Job {
+    place: u32,
+    net: Network,
+}
+
+/// A plan that is decided: its shown form, with the closed table of this and its order if it has
+/// one.
+#[derive(Drop)]
+pub(crate) struct Decided {
+    net: Network,
+    shown: Network,
+    closed: Option<Closed>,
+}
+
+/// The plans that are to be decided, each with its place. `AllocError` comes only if memory is
+/// refused.
+pub(crate) fn jobs_of(alloc: Global, plans: Vec<(Name, Network)>) -> Result<Vec<Job>, AllocError>
+    requires { length plans.items ≤ most_plans }
+    ensures { IfOk result (λ jobs. nets_of jobs.items ≡ nets_given plans.items) }
+{
+    let mut jobs = Vec::new(alloc);
+    for plan in plans {
+        let (_, net) = plan;
+        let place = jobs.len() as u32;
+        jobs.push(Job { place, net })?;
+    }
+    Ok(jobs)
+}
+
+/// Decides plans, in their own threads if these can be started, each by one worker. `AllocError`
+/// comes only if memory is refused, for all or for one of them.
+pub(crate) fn decide_all<R: Threads + Sync, G: Gate>(
+    rt: &R,
+    alloc: Global,
+    jobs: Vec<Job>,
+    gate: &G,
+) -> Result<Vec<Result<Decided, AllocError>>, AllocError>
+    ensures len { IfOk result (λ decided. length decided.items ≡ length jobs.items) }
+    ensures each { IfOk result (λ decided. DecidesEach jobs.items decided.items) }
+{
+    map_vec(
+        rt,
+        jobs,
+        &|job| -> Result<Decided, AllocError>
+            ensures { IfOk result (DecidesTo job.net) }
+        { decide(rt, alloc, job, gate) },
+    )
+}
+
+/// Decides a plan by one worker: closes the table of its shown form.
+fn decide<R: Threads + Sync, G: Gate>(
+    rt: &R,
+    alloc: Global,
+    job: Job,
+    gate: &G,
+) -> Result<Decided, AllocError>
+    ensures { IfOk result (DecidesTo job.net) }
+{
+    gate.before(job.place);
+    let Job { net, .. } = job;
+    let shown = net.shown(alloc)?;
+    let closed = close(rt, alloc, &shown, 1)?;
+    Ok(Decided { net, shown, closed })
+}
+
+/// The plans as they are at first, by what was decided. `AllocError` comes if memory was refused
+/// for one of them, or for all.
+pub(crate) fn gather(
+    alloc: Global,
+    decided: Vec<Result<Decided, AllocError>>,
+) -> Result<Vec<FleetPlan>, AllocError>
+    requires { AllDecided decided.items }
+    ensures { IfOk result (λ members. AllZip OpensDecided decided.items members.items) }
+{
+    let mut members = Vec::new(alloc);
+    for one in decided {
+        members.push(opened(alloc, one?)?)?;
+    }
+    Ok(members)
+}
+
+/// A plan as it is at first: if its closed table has an order it is controllable, and its execution
+/// is started.
+fn opened(alloc: Global, decided: Decided) -> Result<FleetPlan, AllocError>
+    requires { IsDecided decided }
+    ensures { IfOk result (OpensTo decided.net) }
+{
+    law_ordered_closures_are_controllable();
+    law_cycles_of_tables_exclude();
+    law_shown_form_is_instant();
+    law_controllable_is_shown();
+    decided.net.sound();
+    let executor = started(alloc, &decided.shown, &decided.closed)?;
+    let state = state_at_first(&executor);
+    let Decided { net, .. } = decided;
+    Ok(FleetPlan {
+        net,
+        executor,
+        state,
+    })
+}
+
+/// How a plan stands at first: it runs if it has an executor.
+fn state_at_first(executor: &Option<Executor>) -> State
+    ensures { result ≡ state_at_first executor.now }
+{
+    match executor {
+        Some(_) => State::Running,
+        None => State::NotControllable,
+    }
+}
+
+/// The execution of a network without a delay by its closed table, if that has an order.
+fn started(
+    alloc: Global,
+    net: &Network,
+    closed: &Option<Closed>,
+) -> Result<Option<Executor>, AllocError>
+    requires instant { IsInstant net.now }
+    requires closes { ClosesTo net.now closed.now }
+    ensures { IfOk result (StartsWhere net.now) }
+{
+    match closed {
+        None => Ok(None),
+        Some(closed) => Ok(Some(start(alloc, net, closed)?)),
+    }
+}
+
+/// Starts the execution of a network by its closure, on those lower bounds and waits that no others
+/// imply.
+fn start(alloc: Global, net: &Network, closed: &Closed) -> Result<Executor, AllocError>
+    requires instant { IsInstant net.now }
+    requires closes { IsClosedBy net.now closed.now }
+    ensures { IfOk result (StartsBy net.now closed.now) }
+{
+    let dispatch = Dispatch::of(alloc, net, &closed.table, closed.order.as_slice())?;
+    Executor::start(alloc, net, dispatch.slim())
+}

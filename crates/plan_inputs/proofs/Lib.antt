@@ -1,4 +1,0 @@
-pub mod NetworkLemmas
-pub mod PlanLemmas
-pub mod DocumentLemmas
-pub mod PlanInputLemmas

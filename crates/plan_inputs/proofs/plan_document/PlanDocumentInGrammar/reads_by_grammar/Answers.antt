@@ -1,5 +1,0 @@
-use Rattle.plan_inputs.proofs.DocumentLemmas.{bytes_by}
-use Rattle.plan_inputs.proofs.plan_document.PlanDocumentInGrammar.reads_by_grammar.Goals as goal
-
-pub returns : goal.returns
-returns c = λ past. bytes_by past

@@ -1,5 +1,0 @@
-use Rattle.plan_inputs.proofs.PlanLemmas.{parts_by}
-use Rattle.plan_inputs.proofs.plan_text.PlanTextInGrammar.reads_by_grammar.Goals as goal
-
-pub returns : goal.returns
-returns c = λ past. parts_by past

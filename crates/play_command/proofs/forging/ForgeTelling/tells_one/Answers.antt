@@ -1,5 +1,0 @@
-use Rattle.play_command.proofs.ForgeLemmas.{forge_defines_one}
-use Rattle.play_command.proofs.forging.ForgeTelling.tells_one.Goals as goal
-
-pub returns : goal.returns
-returns c = forge_defines_one c.at_most_one_earliest.ensures

@@ -1,6 +1,0 @@
-use Rattle.play_command.specs.Playing.{PutsTimes}
-use Rattle.verdicts.proofs.VerdictLemmas.{verdict_put}
-use Rattle.play_command.proofs.playing.PlayPlanQuestion.puts_the_answer.Goals as goal
-
-pub returns : goal.returns
-returns c = λ words net number put end plan answered. verdict_put net (PutsTimes words.which net put end) put end answered

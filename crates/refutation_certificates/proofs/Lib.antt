@@ -1,0 +1,11 @@
+pub mod Places
+pub mod ItemNames
+pub mod StatedEdges
+pub mod RulesPass
+pub mod LinesPass
+pub mod WalkPasses
+pub mod LawProofs
+pub mod LineNumbers
+pub mod CycleSteps
+pub mod CanBeMade
+pub mod OneCertificate

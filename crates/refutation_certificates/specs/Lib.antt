@@ -1,0 +1,4 @@
+pub mod Certificates
+pub mod RuleLines
+pub mod Laws
+pub mod Refutations

@@ -1,4 +1,0 @@
-pub mod Certifying
-pub mod Making
-pub mod Laws
-pub mod Refuting

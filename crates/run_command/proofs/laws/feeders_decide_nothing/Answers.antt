@@ -1,5 +1,0 @@
-use Rattle.run_command.proofs.RunWordLemmas.{feeders_ask_same}
-use Rattle.run_command.proofs.laws.feeders_decide_nothing.Goals as goal
-
-pub returns : goal.returns
-returns c = feeders_ask_same

@@ -1,5 +1,0 @@
-use Rattle.run_command.proofs.RunWordLemmas.{workers_decide_no_run}
-use Rattle.run_command.proofs.running.RunRequest.workers_decide_nothing.Goals as goal
-
-pub returns : goal.returns
-returns c = workers_decide_no_run

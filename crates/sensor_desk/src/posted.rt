@@ -1,8 +1,0 @@
-/// What a post of a moment for a link came to.
-#[derive(Clone, Copy, Debug, PartialEq, Eq)]
-pub enum Posted {
-    /// Nothing stood for the link, and the moment stands from then on.
-    First,
-    /// This moment stood for the link before, and stands on.
-    Before(u64),
-}

@@ -1,0 +1,3 @@
+pub mod TableHistory
+pub mod NodeRules
+pub mod LaterNodes

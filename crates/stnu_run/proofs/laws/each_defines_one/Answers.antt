@@ -1,6 +1,0 @@
-use Rattle.command_frame.proofs.ProgramLemmas.{chosen_defines_one, refused_defines_one, asked_program_defines_one}
-use Rattle.stnu_run.proofs.NamedLemmas.{other_defines_one}
-use Rattle.stnu_run.proofs.laws.each_defines_one.Goals as goal
-
-pub returns : goal.returns
-returns c = λ command words other. search (other, other_defines_one, chosen_defines_one, refused_defines_one, asked_program_defines_one) depth 13

@@ -1,0 +1,5 @@
+use Rattle.strategy_model.proofs.RuleLemmas.{law_bound_keeps_truth}
+use Rattle.strategy_model.proofs.laws.law_bound_keeps_truth.Goals as goal
+
+pub returns : goal.returns
+returns c = law_bound_keeps_truth

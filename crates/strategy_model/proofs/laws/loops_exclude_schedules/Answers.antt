@@ -1,5 +1,0 @@
-use Rattle.strategy_model.proofs.WalkLemmas.{loops_exclude}
-use Rattle.strategy_model.proofs.laws.loops_exclude_schedules.Goals as goal
-
-pub returns : goal.returns
-returns c = loops_exclude

@@ -1,5 +1,0 @@
-use Rattle.strong_command.proofs.AskLemmas.{strong_exactly}
-use Rattle.strong_command.proofs.laws.strong_is_read_exactly.Goals as goal
-
-pub returns : goal.returns
-returns c = strong_exactly

@@ -1,0 +1,5 @@
+use Rattle.strong_plan.proofs.StrongLemmas.{law_reduced_edges_hold}
+use Rattle.strong_plan.proofs.laws.law_reduced_edges_hold.Goals as goal
+
+pub returns : goal.returns
+returns c = law_reduced_edges_hold

@@ -1,4 +1,0 @@
-pub mod Closing
-pub mod Dense
-pub mod Laws
-pub mod Progress

@@ -1,3 +1,0 @@
-pub mod TableHistory
-pub mod NodeOffers
-pub mod LaterNodes

@@ -1,5 +1,0 @@
-use Rattle.table_proofs.proofs.LawProofs.{table_proofs_have_weights}
-use Rattle.table_proofs.proofs.laws.table_proofs_have_weights.Goals as goal
-
-pub returns : goal.returns
-returns c = table_proofs_have_weights

@@ -1,6 +1,0 @@
-use Rattle.std.proofs.Common.{◌≡◌, map, take}
-use Rattle.net_model.specs.NetworkParts.{point_name}
-use Rattle.table_proofs.proofs.names.point_names.Given as goal
-
-abbrev pub invariant-loop-point : goal.invariant-loop-point
-invariant-loop-point l = l.names.items ≡ map (point_name l.net.points) (take l.point-index l.points)

@@ -1,3 +1,0 @@
-pub mod Proving
-pub mod Laws
-pub mod Certified

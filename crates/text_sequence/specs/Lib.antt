@@ -1,0 +1,4 @@
+pub mod Between
+pub mod Series
+pub mod SeriesGrammar
+pub mod KeptRefusals

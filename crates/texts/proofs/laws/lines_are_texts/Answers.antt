@@ -1,5 +1,0 @@
-use Rattle.texts.proofs.InputLemmas.{lines-texts}
-use Rattle.texts.proofs.laws.lines_are_texts.Goals as goal
-
-pub returns : goal.returns
-returns c = lines-texts
