@@ -1,9 +1,9 @@
 /* The edge of the library: what the program takes of the system, here taken of a run.
  *
- * The program is compiled of its Rattle sources, and not a byte of it is changed: tools/make-library only gives other
- * names to what it calls (main, read, write, the arguments, signal, _exit, memory). It reads standard input, writes
- * standard output, and ends with its status. A run has a stack on which the program works until it wants input; then it
- * gives way to the caller, and goes on when it is fed. */
+ * The program is compiled of its Rattle sources, and not a byte of it is changed: `tools/library make` only gives
+ * other names to what it calls (main, read, write, the arguments, signal, _exit, memory). It reads standard input,
+ * writes standard output, and ends with its status. A run has a stack on which the program works until it wants input;
+ * then it gives way to the caller, and goes on when it is fed. */
 #define _GNU_SOURCE
 #include "stnu.h"
 

@@ -1,4 +1,4 @@
-//! Says where the library is: in the folder `STNU_LIB`, else where `tools/make-library` puts it.
+//! Says where the library is: in the folder `STNU_LIB`, else where `tools/library make` puts it.
 
 use std::env;
 use std::path::PathBuf;
@@ -13,7 +13,7 @@ fn main() {
     println!("cargo:rerun-if-changed={}", archive.display());
     assert!(
         archive.is_file(),
-        "there is no {}: tools/make-library makes it",
+        "there is no {}: python3 tools/library make makes it",
         archive.display()
     );
 }

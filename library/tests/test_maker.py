@@ -1,7 +1,5 @@
-"""Which object files tools/make-library takes for the program."""
+"""Which object files `tools/library make` takes for the program."""
 
-import importlib.machinery
-import importlib.util
 import pathlib
 import shutil
 import subprocess
@@ -12,20 +10,14 @@ import unittest
 TOOLS = pathlib.Path(__file__).resolve().parents[2] / "tools"
 
 
-def loaded(name):
-    """A tool as a module."""
-    loader = importlib.machinery.SourceFileLoader(name, str(TOOLS / name))
-    module = importlib.util.module_from_spec(importlib.util.spec_from_loader(name, loader))
-    loader.exec_module(module)
-    return module
-
-
 @unittest.skipUnless(shutil.which("cc") and shutil.which("readelf"), "there is no C compiler")
 class Objects(unittest.TestCase):
     @classmethod
     def setUpClass(cls):
         sys.path.insert(0, str(TOOLS))
-        cls.maker = loaded("make-library")
+        from library import make
+
+        cls.maker = make
 
     def tried(self, text):
         """Why a program of C is refused, or nothing where it is taken."""

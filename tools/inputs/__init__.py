@@ -1,0 +1,1 @@
+"""Inputs of any size, drawn or made: plans, days, documents, streams of events."""

@@ -1,0 +1,3 @@
+"""Lists what stands in the crates."""
+
+COMMANDS = "calls lemmas".split()
