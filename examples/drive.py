@@ -7,37 +7,40 @@ in the end, 1 where not or where the plan cannot be kept, 2 for wrong words or a
 
 import argparse
 import random
+import sys
+from pathlib import Path
 
-from plan import Plan, Talk, check, plan_words, read, started, stop
+# This file is read by older versions of Python too, so that they can say what is wanted.
+if sys.version_info < (3, 10):
+    sys.exit("drive.py: Python 3.10 or later is needed, and this is %d.%d" % sys.version_info[:2])
+sys.path.insert(0, str(Path(__file__).resolve().parent.parent / "desk"))
+from planner.explain import refusal  # noqa: E402 (the path comes first)
+from planner.faults import Fault, ended  # noqa: E402 (the path comes first)
+from planner.plan import Plan, load  # noqa: E402 (the path comes first)
+from planner.program import Program, Talk  # noqa: E402 (the path comes first)
 
 
 class Dispatcher(Talk):
-    """A run of the program."""
-
-    def __init__(self, program, source):
-        super().__init__(program, "run", source)
+    """A run of the program, over two pipes."""
 
     def answer(self):
         """The acts of the answer to what was sent, and the moment that is due, or None."""
         acts = []
         while True:
             words = self.line().split()
-            match words:
-                case ["controllable"]:
-                    pass
-                case ["act", moment, point]:
-                    acts.append((int(moment), point))
-                case ["due", "none"] | ["complete"]:
-                    return acts, None
-                case ["due", moment]:
-                    return acts, int(moment)
-                case _:
-                    # An event is refused, or the program has ended: from here on nothing is promised, and somebody has to decide.
-                    stop(" ".join(words), self.close())
+            if words[:1] == ["act"]:
+                acts.append((int(words[1]), words[2]))
+            elif words in (["due", "none"], ["complete"]):
+                return acts, None
+            elif words[:1] == ["due"]:
+                return acts, int(words[1])
+            elif words != ["controllable"]:
+                # An event is refused, or the program has ended: from here on nothing is promised, and somebody has to decide.
+                raise Fault(f"the program says: {' '.join(words) or 'nothing'}", self.close())
 
     def tell(self, moment, completed):
         """Tells that it is this moment, and what completes at it."""
-        self.send(" ".join(["at", str(moment), *completed]) + "\n")
+        self.send(" ".join(["at", str(moment), *completed]))
         return self.answer()
 
 
@@ -52,9 +55,17 @@ class Day:
         """A point is executed, or completes. Each link that begins in it has begun; that it has ended is shown by the plan's delay later."""
         print(f"{moment:6} {point}", flush=True)
         self.schedule[point] = moment
-        for end, (start, low, high) in self.plan.links.items():
-            if start == point:
-                self.coming[end] = moment + self.draw.randint(low, high) + self.plan.delay
+        for end, link in self.plan.links.items():
+            if link.start == point:
+                self.coming[end] = moment + self.draw.randint(link.low, link.high) + self.plan.delay
+
+    def broken(self):
+        """The points that have not come; else the bounds and links that are not kept."""
+        came, plan = self.schedule, self.plan
+        bounds = [(name, it.start, it.end, -sys.maxsize, it.most) for name, it in plan.bounds.items()]
+        links = [(end, it.start, end, it.low, it.high) for end, it in plan.links.items()]
+        missing = [point for point in plan.points if point not in came]
+        return missing or [name for name, start, end, low, high in bounds + links if not low <= came[end] - came[start] <= high]
 
 
 def drive(dispatcher, day):
@@ -72,25 +83,30 @@ def drive(dispatcher, day):
         for when, point in acts:
             # Here a driver in the world starts what the point stands for.
             day.comes(when, point)
-    dispatcher.send("done\n")
+    dispatcher.send("done")
 
 
 def main():
     parser = argparse.ArgumentParser(description=__doc__, formatter_class=argparse.RawDescriptionHelpFormatter)
-    plan_words(parser)
+    parser.add_argument("stnu", help="the program, such as ./stnu")
+    parser.add_argument("plan", help="the file of a plan, a plan text or a JSON document")
+    parser.add_argument("--delay", type=int, metavar="N", help="how late completions are seen, whatever the plan says")
     parser.add_argument("seed", nargs="?", type=int, default=1, help="from which nature's durations are drawn (1)")
-    words = parser.parse_args()
-    source = read(words.plan, words.delay)
-    if check(words.stnu, source)[0] != "controllable":
-        print("the plan cannot be kept; narrow.py says why")
+    words = parser.parse_intermixed_args()
+    source, program = load(words.plan, words.delay), Program(words.stnu)
+    checked = program.call(["check"], source)
+    if checked.is_refused:
+        raise refusal(source, checked, words.plan)
+    if not checked.is_kept:
+        print("the plan cannot be kept; 'planner why' says why")
         return 1
-    plan = Plan(source)
-    day = Day(plan, words.seed)
-    drive(Dispatcher(words.stnu, source), day)
-    broken = plan.broken(day.schedule)
+    day = Day(Plan.of(source), words.seed)
+    with Dispatcher(program, "run", source) as dispatcher:
+        drive(dispatcher, day)
+    broken = day.broken()
     print(f"not kept: {' '.join(broken)}" if broken else "every bound and link is kept")
     return 1 if broken else 0
 
 
 if __name__ == "__main__":
-    started(main)
+    sys.exit(ended(main))

@@ -16,9 +16,13 @@ import sys
 from dataclasses import dataclass, field
 from pathlib import Path
 
-from plan import started
-
 ROOT = Path(__file__).resolve().parent.parent
+# This file is read by older versions of Python too, so that they can say what is wanted.
+if sys.version_info < (3, 10):
+    sys.exit("printed.py: Python 3.10 or later is needed, and this is %d.%d" % sys.version_info[:2])
+sys.path.insert(0, str(ROOT / "desk"))
+from planner.faults import ended  # noqa: E402 (the path comes first)
+
 # What a call may want that is not there everywhere, and whether it is.
 WANTED = {"jq ": shutil.which("jq"), "out/library": (ROOT / "out" / "library").is_dir()}
 INDENT = " " * 4
@@ -99,4 +103,4 @@ def main():
 
 
 if __name__ == "__main__":
-    started(main)
+    sys.exit(ended(main))

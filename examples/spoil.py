@@ -10,8 +10,16 @@ not or where the plan cannot be kept, 2 for wrong words or a file that cannot be
 import argparse
 import random
 import sys
+from pathlib import Path
 
-from plan import Source, answer, plan_words, read, started
+# This file is read by older versions of Python too, so that they can say what is wanted.
+if sys.version_info < (3, 10):
+    sys.exit("spoil.py: Python 3.10 or later is needed, and this is %d.%d" % sys.version_info[:2])
+sys.path.insert(0, str(Path(__file__).resolve().parent.parent / "desk"))
+from planner.explain import refusal  # noqa: E402 (the path comes first)
+from planner.faults import ended  # noqa: E402 (the path comes first)
+from planner.plan import load  # noqa: E402 (the path comes first)
+from planner.program import Program, Source  # noqa: E402 (the path comes first)
 
 
 def dropped(lines, place):
@@ -42,17 +50,23 @@ def changes(proof):
 
 def main():
     parser = argparse.ArgumentParser(description=__doc__, formatter_class=argparse.RawDescriptionHelpFormatter)
-    plan_words(parser)
+    parser.add_argument("stnu", help="the program, such as ./stnu")
+    parser.add_argument("plan", help="the file of a plan, a plan text or a JSON document")
+    parser.add_argument("--delay", type=int, metavar="N", help="how late completions are seen, whatever the plan says")
     parser.add_argument("count", nargs="?", type=int, default=3, help="how many changes of each kind are made (3)")
-    words = parser.parse_args()
-    source, draw = read(words.plan, words.delay), random.Random(1)
+    words = parser.parse_intermixed_args()
+    source, draw, program = load(words.plan, words.delay), random.Random(1), Program(words.stnu)
 
     def judged(lines):
-        return " ".join(answer(words.stnu, ["judge"], Source(source.text + "\n".join([*lines, ""]), source.words))[1])
+        return program.call(["judge"], source, Source("\n".join([*lines, ""]))).first
 
-    first, *proof = answer(words.stnu, ["check", "--proof"], source)[1]
-    if first != "controllable":
-        sys.exit(f"{words.plan} cannot be kept: {first}")
+    checked = program.call(["check", "--proof"], source)
+    if checked.is_refused:
+        raise refusal(source, checked, words.plan)
+    if not checked.is_kept:
+        print(f"{words.plan} cannot be kept")
+        return 1
+    proof = checked.certificate()
     kinds = changes(proof)
     said = judged(proof)
     print(f"{words.plan}: {len(kinds[0][2])} entries: {said}")
@@ -65,4 +79,4 @@ def main():
 
 
 if __name__ == "__main__":
-    started(main)
+    sys.exit(ended(main))

@@ -2,7 +2,7 @@
 
 from dataclasses import dataclass, field
 
-from planner.parts import MOST_BOUNDS, MOST_LINKS, MOST_POINTS, Bound, Finding, Kind, Link, Point, form
+from planner.parts import MOST_BOUNDS, MOST_LINKS, MOST_POINTS, Bound, Finding, Kind, Link, Point
 from planner.reader import nearest
 
 
@@ -20,12 +20,12 @@ class Built:
 class Builder:
     """Builds parts one after another."""
 
-    def __init__(self, statements):
-        self.statements = statements
+    def __init__(self, reading):
+        self.statements, self.spelling = reading.statements, reading.spelling
         self.built = Built()
         # Where each point is declared, be it later.
         self.declared = {}
-        for it in statements:
+        for it in self.statements:
             if it.kind == Kind.POINT and it.is_whole():
                 self.declared.setdefault(it["NAME"], it.line)
 
@@ -108,7 +108,7 @@ class Builder:
 
     def fault(self, statement, word, message, token):
         told = f"error plan {statement.place} {word}"
-        self.built.findings.append(Finding(statement.line, message, told, token, form(statement.kind)))
+        self.built.findings.append(Finding(statement.line, message, told, token, self.spelling.form(statement.kind)))
 
 
 def bounds_of(statement):

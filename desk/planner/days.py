@@ -2,7 +2,7 @@
 
 import math
 import random
-from dataclasses import dataclass
+from dataclasses import dataclass, replace
 
 from planner.explain import refusal
 from planner.faults import Fault, Status
@@ -16,11 +16,12 @@ LARGEST_NUMBER = 2**64 - 1
 
 @dataclass(frozen=True)
 class Day:
-    """A day with its title, the moments of its points by name, and the call that gave them."""
+    """A day with its title, the moments of its points by name, the call that gave them, and the words by which it is drawn again."""
 
     title: str
     moments: dict[str, int]
     call: str | None = None
+    again: str = ""
 
 
 def day_word(word):
@@ -73,13 +74,14 @@ def played(program, plan, which, path):
         raise refusal(plan.source, answer, path)
     if not answer.is_kept:
         raise unkept()
-    return Day(f"day {which}" if which.isdigit() else which, moments_of(plan, answer.lines), answer.call)
+    return Day(f"day {which}" if which.isdigit() else which, moments_of(plan, answer.lines), answer.call, which)
 
 
 def at_random(program, plan, seed, how_many, path):
     """Days drawn at random."""
     for place, durations in enumerate(drawn(plan, seed, how_many), 1):
-        yield day_of(program, plan, durations, f"random {place}, seed {seed}", path)
+        day = day_of(program, plan, durations, f"random {place}, seed {seed}", path)
+        yield day if day.again else replace(day, again=f"--random {place} --seed {seed}")
 
 
 def day_of(program, plan, durations, title, path):

@@ -50,6 +50,12 @@ def delay_of(words):
     return None
 
 
+def parts_of(lines):
+    """The lines of a plan but for its delay: the bounds, whose order says nothing, and the others in their order."""
+    bounds = sorted(line for line in lines if line.startswith("bound "))
+    return bounds, [line for line in lines if not line.startswith(("bound ", "delay "))]
+
+
 class Desk:
     """A session over a plan. What ends it, or spoils it, is undone by a new one, in which the lines that stand are played again."""
 
@@ -65,6 +71,10 @@ class Desk:
         delays = [delay for line in lines if (delay := delay_of(line.split())) is not None]
         source = self.source.with_delay(delays[-1]) if delays else self.source
         self.talk, self.draft = Session(self.program, source), Draft.of(self.source)
+
+    def is_begun_anew(self):
+        """Whether the last edit was one of the delay: the session has been begun anew for it, and knows of none."""
+        return bool(self.lines) and delay_of(self.lines[-1].split()) is not None
 
     def play(self, lines):
         """Begins anew with these lines. Returns those that are refused, which are left out, each with what is said to it."""
@@ -114,13 +124,17 @@ class Desk:
             self.play(self.lines)
         return answer
 
-    def is_as_the_session_has_it(self):
-        """Whether the program reads the draft as the plan that its session has, but for the delay of the call."""
+    @property
+    def is_document(self):
+        """Whether the plan came as a JSON document."""
+        return "--json" in self.source.words
+
+    def is_as_the_session_has_it(self, source):
+        """Whether the program reads a source as the plan that its session has, but for the delay of the call and the order of bounds."""
         self.talk.send("plan")
         held = self.talk.lines(lambda line: line == "end")
-        shown = self.program.call(["show"], self.draft.source().with_delay(None), is_shown=False)
-        without_delay = [[line for line in lines if not line.startswith("delay ")] for lines in (shown.lines, held)]
-        return shown.is_kept and without_delay[0] == without_delay[1]
+        shown = self.program.call(["show"], source, is_shown=False)
+        return shown.is_kept and parts_of(shown.lines) == parts_of(held)
 
     def close(self):
         self.talk.send("end")

@@ -5,7 +5,7 @@ import math
 import re
 from dataclasses import dataclass
 
-from planner.parts import LARGEST, LARGEST_DELAY, LONGEST_BETWEEN, LONGEST_NAME, Finding, Kind, Reading, Statement, Word
+from planner.parts import LARGEST, LARGEST_DELAY, LONGEST_BETWEEN, LONGEST_NAME, Finding, Kind, Reading, Spelling, Statement, Word
 from planner.reader import about_name, is_name, nearest
 
 DEEPEST = 127
@@ -115,12 +115,17 @@ def flaw(text):
     return (f"lists and objects nest deeper than {DEEPEST}", 1) if depth(value) > DEEPEST else None
 
 
+def about_text(text, longest):
+    """What is the matter with a text in the place of a name."""
+    return about_name(text, longest).replace("are words exchanged?", "are members exchanged?")
+
+
 class DocumentReader:
     """Reads the members of a document, one after another."""
 
     def __init__(self, text):
         self.text = text
-        self.reading = Reading()
+        self.reading = Reading(spelling=Spelling(is_document=True))
         # The line of each place is found by going on from the last one.
         self.at, self.line = 0, 1
         self.place = 0
@@ -192,7 +197,7 @@ class DocumentReader:
             if type(node.value) is not str:
                 self.fault(node, "a point is a name in quotes", f"error json shape points {number}")
             elif not is_name(node.value):
-                self.fault(node, about_name(node.value, LONGEST_NAME), f"error json bad-name points {number}", node.value)
+                self.fault(node, about_text(node.value, LONGEST_NAME), f"error json bad-name points {number}", node.value)
             else:
                 self.reading.statements.append(Statement(Kind.POINT, self.line_of(node.start), self.place, {"NAME": self.word(node)}))
 
@@ -229,7 +234,7 @@ class DocumentReader:
             longest = LONGEST_BETWEEN if (name, member) == ("between", "name") else LONGEST_NAME
             text = node.value[member].value if member in node.value else None
             if text is not None and not (is_name(text) and len(text) <= longest):
-                self.fault(node.value[member], about_name(text, longest), f"error json bad-name {name} {number}", text)
+                self.fault(node.value[member], about_text(text, longest), f"error json bad-name {name} {number}", text)
                 is_sound = False
         for member, value in node.value.items():
             if member not in NAMES and abs(value.value) > LARGEST:

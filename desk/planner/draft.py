@@ -1,10 +1,13 @@
 """A plan text that is edited where it stands: remarks, lines `between`, order and names come back in what is written."""
 
+import json
 import re
 from dataclasses import dataclass
+from pathlib import Path
 
+from planner.document import LISTS, NAMES
 from planner.parts import FORMS, Kind
-from planner.plan import Plan
+from planner.plan import DOCUMENT, Plan
 from planner.program import Source
 from planner.reader import words_of
 
@@ -40,6 +43,23 @@ def document_lines(plan):
     yield "end"
 
 
+def is_document_file(path):
+    return Path(path).suffix == DOCUMENT
+
+
+def item(words, kind, members):
+    """The words of a statement as an item of a document."""
+    place = dict(zip(FORMS[kind], words[1:]))
+    return {member: place[name] if member in NAMES else int(place[name]) for member, name in members.items()}
+
+
+def listed(value):
+    """A member of a document as it is written, with a line for each item of a list."""
+    if not isinstance(value, list) or not value:
+        return json.dumps(value)
+    return "[\n" + ",\n".join(f"    {json.dumps(it)}" for it in value) + "\n  ]"
+
+
 class Draft:
     """The lines of a plan, and edits of them by the words of a session."""
 
@@ -58,6 +78,19 @@ class Draft:
     def source(self):
         """The draft as the program is given it."""
         return Source("".join(f"{line.text}\n" for line in self.lines), self.words_of_call)
+
+    def document(self):
+        """The draft as a JSON document, which has no remarks, and each kind of statement in a list of its own."""
+        lists = {"points": [line.words[1] for line in self.lines if line.words[:1] == [Kind.POINT.value]]}
+        for name, (kind, members) in LISTS.items():
+            lists[name] = [item(line.words, kind, members) for line in self.lines if line.words[:1] == [kind.value]]
+        delay = next((int(line.words[1]) for line in self.lines if line.words[:1] == [Kind.DELAY.value]), 0)
+        members = {"stnu": 2, "delay": delay} | {name: items for name, items in lists.items() if items or name != "between"}
+        return "{\n" + ",\n".join(f'  "{name}": {listed(value)}' for name, value in members.items()) + "\n}\n"
+
+    def written(self, path):
+        """The text of the draft for a file: a document if the file's name ends as those of documents do."""
+        return self.document() if is_document_file(path) else self.source().text
 
     def header(self):
         return next(line for line in self.lines if line.words)
@@ -132,6 +165,11 @@ class Draft:
         _, between, start, low, high, end = line.words
         line.text = f"bound {between}.max {start} {end} {high}" if ending == ".min" else f"bound {between}.min {end} {start} {-int(low)}"
 
+    def lone_bound(self, name):
+        """The bound that somebody means who calls it as a line `between` is called, or a side of one; None where there is none."""
+        bound = name[:-4] if name[-4:] in ENDINGS else name
+        return bound if self.find("bound", 1, bound) else None
+
     def has_between(self, name):
         """Whether both bounds of a line `between` of this name are there."""
         return self.find("between", 1, name) is not None or all(self.find("bound", 1, name + ending) for ending in ENDINGS)
@@ -139,6 +177,10 @@ class Draft:
     def names(self, kind, place):
         """The names in a place of all statements of a kind."""
         return [line.words[place] for line in self.lines if line.words[:1] == [kind]]
+
+    def starts(self):
+        """The point in which each link starts, by that in which it ends."""
+        return dict(zip(self.names("link", 4), self.names("link", 1)))
 
     def bounds(self):
         """The names of all bounds, those of lines `between` too."""

@@ -6,7 +6,7 @@ from planner.drawing.scale import TIME, Clock, Numbers
 from planner.faults import Fault, Status
 from planner.plan import Plan
 from planner.reader import quoted
-from planner.slips import meant, unknown
+from planner.slips import meant, unknown, without_line
 
 # The latest moment that can be told.
 LAST_MOMENT = 4_000_000_000_000
@@ -48,6 +48,11 @@ class Told:
     def why(self):
         """The word of a refused event and what stands after it."""
         return self.refused.split()[3:]
+
+    @property
+    def said(self):
+        """What the program says of a refused event, without the number of its line."""
+        return without_line(self.refused)
 
     @property
     def is_of_another_day(self):
@@ -193,6 +198,14 @@ def in_numbers(words, scale):
     return words
 
 
+def as_typed(line, scale):
+    """A line of a day as it is typed: with a time of day in the place of its moment, if there is a clock."""
+    match line.split():
+        case ["at", moment, *names]:
+            return " ".join(["at", scale.text(int(moment)), *names])
+    return line
+
+
 def slip_of_event(line, told, execution, scale=NUMBERS):
     """What is the matter with an event that was refused, in a sentence for whoever told it."""
     words, plan = line.split(), execution.plan
@@ -220,4 +233,6 @@ def slip_of_event(line, told, execution, scale=NUMBERS):
             return f"{name} was to be seen by {scale.text(int(latest))} at the latest"
         case ["unfinished", name]:
             return f"{name} is still to come: tell it first"
+        case ["moment"]:
+            return f"the greatest moment is {LAST_MOMENT:,}"
     return ""

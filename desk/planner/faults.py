@@ -27,13 +27,13 @@ class Status(IntEnum):
 
 MEANINGS = {
     Status.KEPT: "it can be kept; done",
-    Status.NOT_KEPT: "it cannot be kept",
+    Status.NOT_KEPT: "it cannot be kept; a certificate is refused",
     Status.WORDS: "the words of the call are wrong, or a file is not there",
-    Status.PLAN: "the plan is at fault",
+    Status.PLAN: "the plan is at fault, or a file in the place of a certificate",
     Status.LIMIT: "the plan passes a limit",
     Status.READ: "reading failed",
     Status.WRITE: "writing failed",
-    Status.EVENT: "an event is refused",
+    Status.EVENT: "an event is refused; of edit, day and room a line that is not told again as it was meant (0 at a terminal)",
     Status.MEMORY: "there was no memory",
     Status.DEFECT: "a defect of planner itself",
     Status.NO_PROGRAM: "there is no program to ask",

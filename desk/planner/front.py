@@ -2,6 +2,7 @@
 
 import argparse
 import importlib
+import re
 import textwrap
 
 from planner import faults, options, output, version
@@ -11,10 +12,17 @@ from planner.reader import nearest
 
 
 class Parser(argparse.ArgumentParser):
-    """A parser whose complaints are one line, and which knows the nearest command."""
+    """A parser whose complaints are one line, and which knows the nearest option."""
 
     def error(self, message):
-        raise faults.Fault(f"{message}\nplanner: '{self.prog} --help' has the words and an example")
+        raise faults.Fault(f"{message}{self.meant(message)}\nplanner: '{self.prog} --help' has the words and an example")
+
+    def meant(self, message):
+        """What was most likely meant by an option that is none, as the end of a complaint."""
+        options = re.findall(r"--[a-z-]+", self.format_usage())
+        word = next((word for word in message.split() if word.startswith("--")), None)
+        near = nearest(word, options) if word and message.startswith("unrecognized") else None
+        return f"; was '{near}' meant?" if near else ""
 
 
 def module_of(name):

@@ -8,7 +8,7 @@ from planner.explain import refusal
 from planner.faults import Fault, say
 from planner.journal import Head, Journal, beside, sum_of
 from planner.output import ENCODING
-from planner.plan import END_LINE, STANDARD_INPUT, load, source_of
+from planner.plan import END_LINE, ENDINGS, STANDARD_INPUT, load, source_of
 from planner.typed import is_agreed
 
 WROTE = "# wrote"
@@ -79,9 +79,23 @@ def fit(journal, head, args):
     journal.head = head
 
 
+def spare(path, *read):
+    """Sees that a certificate or a picture takes the place of no file that the call reads, and of none that is a plan by its name."""
+    if any(is_same_file(path, it) for it in read):
+        raise Fault(f"{path} is read by this call, and is never written: name another file")
+    if Path(path).suffix in ENDINGS and Path(path).exists():
+        raise Fault(f"{path} is there, and is a plan by its name, which is never written over: name another file")
+
+
 def write_whole(path, text):
-    """Writes a file so that its old state or its new one is there at any moment."""
-    path = Path(path)
+    """Writes a file so that its old state or its new one is there at any moment. What is no file of a disk stays what it is."""
+    given = Path(path)
+    if given.exists() and not given.is_file():
+        with open(given, "w", newline="\n", **ENCODING) as device:
+            device.write(text)
+        return
+    # (a link stays one too)
+    path = given.resolve()
     near = path.with_name(f".{path.name}.{os.getpid()}")
     try:
         with open(near, "w", newline="\n", **ENCODING) as file:
@@ -91,7 +105,7 @@ def write_whole(path, text):
         os.replace(near, path)
     except OSError as why:
         near.unlink(missing_ok=True)
-        why.filename = str(path)
+        why.filename = str(given)
         raise
 
 
@@ -102,7 +116,7 @@ def write_own(path, text, journal, plan):
         if is_same_file(path, plan):
             raise Fault(f"{path} is the plan itself, which is never written: name another file")
         own = {line.rpartition(" ")[2] for line in journal.lines if line.startswith(f"{WROTE} ")}
-        if sum_of(read(path)) not in own:
+        if not path.is_file() or sum_of(read(path)) not in own:
             raise Fault(f"{path} was not written by planner as it stands, and is left alone: name another file")
     journal.keep(f"{WROTE} {path.name} {sum_of(text)}")
     write_whole(path, text)

@@ -27,6 +27,12 @@ def add_common(parser):
     group.add_argument("--show-calls", action="store_true", help=calls)
 
 
+def add_clock(parser, of=""):
+    """Adds the word for the time of day at moment 0."""
+    clock_help = f"{of}the time at moment 0: 7:30 for moments of a minute, 7:30:00 of a second"
+    parser.add_argument("--clock", metavar="TIME", help=clock_help)
+
+
 def add_plan(parser):
     """Adds the word for a plan: a file, or standard input."""
     parser.add_argument("plan", nargs="?", default="-", metavar="PLAN", help="a file with a plan text or a JSON document (standard input)")

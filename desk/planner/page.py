@@ -115,8 +115,10 @@ class Strips:
         parts = [self.upright(tick, height, "grid") for tick in self.axis.ticks()]
         parts += [self.bar(start, end, 0, "over") for start, end in row.over]
         for lane, (end, window) in enumerate(row.coming.items()):
-            parts += self.running(end, row.begun[end], window, lane)
+            parts += self.running(row.begun[end], window, lane)
         parts += [self.point(point, came) for point, came in row.came.items()]
+        # Names lie upon bars and dots, and dots on the upper edges of bars, so that neither hides the other.
+        parts += [self.name(end, row.begun[end], lane) for lane, end in enumerate(row.coming)]
         parts += [] if row.due is None else [self.due(row.due)]
         parts.append(self.upright(self.now, height, "now"))
         return element("svg", "".join(parts), height=height, role="img", aria_label=escape(f"the day of {row.name}"))
@@ -129,16 +131,19 @@ class Strips:
         place = {"x": self.axis.at(start), "width": self.axis.length(start, end), "y": y}
         return element("rect", **place, height=self.shape.thick, rx=2, class_=kind)
 
-    def running(self, end, start, window, lane):
+    def running(self, start, window, lane):
         """A link that runs: the time in which it cannot be over, and the hatched time in which its end may be seen."""
         first = max(start, min(self.now, window.last) if window.first is None else window.first)
         yield self.bar(start, first, lane, "run")
         yield self.bar(first, window.last, lane, "may")
-        yield element("text", escape(end), x=self.axis.at(start), dx=6, y=self.shape.middle + lane * self.shape.lane + 4)
+
+    def name(self, end, start, lane):
+        """The name of a link that runs, upon its bar."""
+        return element("text", escape(end), x=self.axis.at(start), dx=6, y=self.shape.middle + lane * self.shape.lane + 4)
 
     def point(self, name, came):
         title = element("title", f"{escape(name)} {self.axis.text(came)}")
-        return element("circle", title, cx=self.axis.at(came), cy=self.shape.middle, r=self.shape.thick * 0.3, class_="point")
+        return element("circle", title, cx=self.axis.at(came), cy=self.shape.free - 1, r=self.shape.thick * 0.3, class_="point")
 
     def due(self, moment):
         mark = element("path", f"<title>due {self.axis.text(moment)}</title>", d="M0,-8 L7,0 L0,8 L-7,0 Z", class_="due")

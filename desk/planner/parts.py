@@ -37,6 +37,24 @@ def form(kind):
 
 
 @dataclass(frozen=True)
+class Spelling:
+    """How a plan is told to its writer: a text by its words, a document by its members."""
+
+    is_document: bool = False
+
+    def form(self, kind):
+        """The form of a statement, as its writer is shown it."""
+        if not self.is_document:
+            return form(kind)
+        members = ", ".join(place.lower() for place in FORMS[kind])
+        return {Kind.POINT: "a name in quotes", Kind.DELAY: "a whole number"}.get(kind, f"an object with {members}")
+
+    def place(self, name):
+        """A place of a statement, as its writer calls it."""
+        return f"'{name.lower()}'" if self.is_document else name
+
+
+@dataclass(frozen=True)
 class Word:
     """A word of a text, or what a member of a document says, and where it stands in the text: from `start` up to `end`."""
 
@@ -102,6 +120,13 @@ class Bound:
         """The bound as a line of a plan, with its own number or another."""
         return f"bound {self.name} {self.start} {self.end} {self.most if most is None else most}"
 
+    def line_text(self):
+        """The line of the plan on which the bound stands: that of a line `between` has two."""
+        if self.statement.kind == Kind.BOUND:
+            return self.text()
+        words = " ".join(self.statement[place] for place in FORMS[Kind.BETWEEN])
+        return f"{Kind.BETWEEN.value} {words}"
+
 
 @dataclass(frozen=True)
 class Link:
@@ -120,6 +145,10 @@ class Link:
     def text(self, low=None, high=None):
         """The link as a line of a plan, with its own numbers or others."""
         return f"link {self.start} {self.low if low is None else low} {self.high if high is None else high} {self.end}"
+
+    def line_text(self):
+        """The line of the plan that declares the link."""
+        return self.text()
 
 
 @dataclass(frozen=True)
@@ -150,3 +179,4 @@ class Reading:
     # Names that a remark `# fixed` holds, with its line, and lines of statements that one above them holds.
     held_names: dict[str, int] = field(default_factory=dict)
     held_lines: set[int] = field(default_factory=set)
+    spelling: Spelling = Spelling()

@@ -7,32 +7,46 @@ from dataclasses import dataclass
 
 from planner.building import Builder
 from planner.document import DocumentReader
-from planner.faults import Fault, Status, say, told_by_system
+from planner.faults import Fault, Status, hint, say, told_by_system
 from planner.output import ENCODING
-from planner.parts import Bound, Kind, Link, Point, Statement
+from planner.parts import Bound, Finding, Kind, Link, Point, Spelling, Statement
 from planner.program import Source
-from planner.reader import TextReader, quoted
+from planner.reader import BLANKS, TextReader, quoted
 
 STANDARD_INPUT = "-"
+# So end the names of files with plans: plan texts, and JSON documents.
+TEXT, DOCUMENT = ENDINGS = (".stnu", ".json")
 # The line that ends a plan, and all that stands after the JSON document of one.
 END_LINE = re.compile(r"^[ \t\r]*end[ \t\r]*(?:\n|\Z)", re.MULTILINE)
+# So many characters are read of a plan, and of the lines of a day; and of a certificate, as the program does.
+LONGEST_TEXT, LONGEST_CERTIFICATE = 67_108_864, 1_073_741_824
 # What the system says of a path that is no file to be read.
 NO_FILE = (FileNotFoundError, IsADirectoryError, NotADirectoryError, PermissionError)
 
 
-def text_of(path):
-    """The text of a file, or of standard input."""
+def text_of(path, most=LONGEST_TEXT):
+    """The text of a file, or of standard input, which may have an end or none, as a device has."""
     if path == STANDARD_INPUT and sys.stdin is None:
         raise Fault("standard input is closed", Status.READ)
     try:
         if path == STANDARD_INPUT:
-            return sys.stdin.read()
+            if sys.stdin.isatty():
+                hint("this is read from standard input, up to its end; a file is named in the call")
+            return limited(sys.stdin, path, most)
         with open(path, newline="\n", **ENCODING) as file:
-            return file.read()
+            return limited(file, path, most)
     except NO_FILE as why:
         raise Fault(told_by_system(why), Status.WORDS) from why
     except OSError as why:
         raise Fault(told_by_system(why), Status.READ) from why
+
+
+def limited(file, path, most):
+    """What is left to be read of a file, if it is not too long."""
+    text = file.read(most + 1)
+    if len(text) > most:
+        raise Fault(f"{called(path)} has more than {most:,} characters, and is read no further", Status.LIMIT)
+    return text
 
 
 def load(path=STANDARD_INPUT, delay=None):
@@ -50,10 +64,14 @@ def load(path=STANDARD_INPUT, delay=None):
 
 
 def lines_after_end(text, source):
-    """The warnings of what stands in a plan text after its line `end`, which its source leaves out."""
-    if "--json" in source.words or len(text) <= len(source.text):
+    """The warnings of what stands in a plan text or a document after its line `end`, which its source leaves out."""
+    end = END_LINE.search(text)
+    if end is None:
         return []
-    return [it for it in TextReader(text).read().findings if not it.is_fault]
+    message = "this stands after the line 'end' and is not read: move 'end' below it"
+    first = text.count("\n", 0, end.start()) + 2
+    lines = [(number, line.strip(BLANKS)) for number, line in enumerate(text[end.end() :].split("\n"), first)]
+    return [Finding(number, message, token=line, slip="after-end") for number, line in lines if line and not line.startswith("#")]
 
 
 def source_of(text, path):
@@ -110,7 +128,7 @@ def read(source):
         reading = DocumentReader(source.text.removesuffix("end\n")).read()
     else:
         reading = TextReader(source.text).read()
-    built = Builder(reading.statements).build()
+    built = Builder(reading).build()
     return reading, built, reading.findings + built.findings
 
 
@@ -137,6 +155,7 @@ class Plan:
     held: frozenset[str]
     # Names in remarks `# fixed` that stand for nothing in the plan, with their lines.
     unknown_held: dict[str, int]
+    spelling: Spelling = Spelling()
 
     @classmethod
     def of(cls, source):
@@ -145,9 +164,14 @@ class Plan:
         fault = next((it for it in findings if it.is_fault), None)
         if fault:
             raise Fault(f"the program took a plan that planner reads as: {fault.told}", Status.DEFECT)
+        return cls.of_parts(source, reading, built)
+
+    @classmethod
+    def of_parts(cls, source, reading, built):
+        """The plan of the parts of a source in which there is no fault."""
         delay = int(source.words[source.words.index("--delay") + 1]) if "--delay" in source.words else built.delay
         held, unknown = held_of(reading, built)
-        return cls(source, reading.statements, built.points, built.bounds, built.links, delay, held, unknown)
+        return cls(source, reading.statements, built.points, built.bounds, built.links, delay, held, unknown, reading.spelling)
 
     def with_numbers(self, most=None, spans=None, delay=None):
         """This plan as a source with other numbers of bounds, by name, intervals of links, by end, or another delay.
@@ -168,6 +192,10 @@ class Plan:
         """The line on which a bound, a link or a point of this name stands."""
         found = self.bounds.get(name) or self.links.get(name) or self.points.get(name)
         return found.line if found else None
+
+    def starts(self):
+        """The point in which each link starts, by that in which it ends."""
+        return {end: link.start for end, link in self.links.items()}
 
     def name_on_line(self, name):
         """The name that stands on the line of a bound: `cut` of a line `between cut`, whose bounds are `cut.max` and `cut.min`."""

@@ -144,10 +144,10 @@ class Program:
 
     def quick(self):
         """This program without the launcher in front of it, which takes longer than a small plan: for many calls one after another."""
-        tool = Path(self.path).parent / "tools" / "ready-program"
-        if not tool.is_file():
+        tool = Path(self.path).parent / "tools" / "start"
+        if not tool.is_dir():
             return self
-        words = [tool, *filter(None, [os.environ.get("STNU_PROGRAM")])]
+        words = [sys.executable, tool, "which", *filter(None, [os.environ.get("STNU_PROGRAM")])]
         done = subprocess.run(words, stdin=subprocess.DEVNULL, stdout=subprocess.PIPE, check=False, env=quiet(), **ENCODING)
         inner = {"proved": "crates/stnu_cli/out/stnu_cli", "checked": "out/start/stnu_cli"}.get(done.stdout.strip())
         return Program(relative(tool.parents[1].resolve() / inner), self.shows_calls) if done.returncode == 0 and inner else self

@@ -73,7 +73,6 @@ class TextReader:
             self.no_header(number + 1, "the plan does not begin with a line 'stnu 1' or 'stnu 2'")
         elif not self.is_over:
             self.fault(number + 1, "no-end", "the text ends without a line 'end': add it, or look where the text was cut off")
-        self.after_end(number, start)
         return self.reading
 
     def line(self, number, line, start):
@@ -95,11 +94,10 @@ class TextReader:
 
     def remark(self, number, words):
         """A remark `# fixed` holds the statement below it, `# fixed NAME ..` those of these names."""
-        if words[0] == "#":
-            words = words[1:]
-        if words and words[0].lstrip("#").rstrip(":").lower() == "fixed":
-            self.reading.held_names |= {word.strip(","): number for word in words[1:]}
-            self.holds_next = self.holds_next or not words[1:]
+        held = held_by(words)
+        if held is not None:
+            self.reading.held_names |= {word.strip(","): number for word in held}
+            self.holds_next = self.holds_next or not held
 
     def header(self, number, words):
         match [word.text for word in words]:
@@ -181,15 +179,6 @@ class TextReader:
             return True
         return False
 
-    def after_end(self, number, start):
-        """Warns of what stands after the line `end`, which no command reads."""
-        for line in self.text[start:].split("\n") if self.is_over else []:
-            number += 1
-            words = words_of(line)
-            if words and not words[0].text.startswith("#"):
-                message = "this stands after the line 'end' and is not read: move 'end' below it"
-                self.reading.findings.append(Finding(number, message, token=line.strip(BLANKS), slip="after-end"))
-
     def no_header(self, number, why, token=None):
         self.fault(number, "no-header", why, token, "stnu 2")
 
@@ -200,12 +189,19 @@ class TextReader:
 FORMS_BY_WORD = {kind.value: kind for kind in FORMS}
 
 
+def held_by(words):
+    """The names after `# fixed` in the words of a remark; None where it is another remark."""
+    words = words[1:] if words[0] == "#" else words
+    return words[1:] if words and words[0].lstrip("#").rstrip(":").lower() == "fixed" else None
+
+
 def count_of_words(kind, given):
     """What is the matter with a line that has more or fewer words than its form."""
     wanted = len(FORMS[kind])
-    remark = next((word for word in given if word.startswith("#")), None)
+    remark = next((place for place, word in enumerate(given) if word.startswith("#")), None)
     if len(given) > wanted and remark is not None:
-        return "a remark stands on a line of its own"
+        is_held = held_by(given[remark:]) is not None
+        return "a remark stands on a line of its own" + (": '# fixed' stands on a line above the one that it holds" if is_held else "")
     said = f"{wanted} word{'s' if wanted > 1 else ''} wanted after '{kind.value}', and {len(given)} stand there"
     if kind in (Kind.BOUND, Kind.BETWEEN) and len(given) == wanted - 1:
         return f"{said}: has it a name?"

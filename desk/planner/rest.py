@@ -5,17 +5,23 @@ from dataclasses import dataclass, field
 
 from planner.desk_session import sent
 from planner.draft import ENDINGS, Draft
+from planner.execution import NUMBERS, Execution
 from planner.faults import Fault
 from planner.parts import Kind
 from planner.plan import Plan
 from planner.program import Session, Source
-from planner.slips import meant, unknown
+from planner.slips import link_meant, unknown
 
 # The endings of the names of what this adds, and the remarks above it.
 CAME, FROM_NOW = "came", "from-now"
 OWN = re.compile(rf".*\.({CAME}|{FROM_NOW})(\.[0-9]+)?(\.max|\.min)?")
 HEAD = "# What is left of a day at"
 ADDED = "# What has come stays where it came, and what is still to come does so no sooner than now."
+
+
+def is_of_rest(text):
+    """Whether a text may be the plan of a rest, which another one may replace; a document has no remark that says so, but its names."""
+    return text.startswith(HEAD) or re.search(rf'"[^"]*\.({CAME}|{FROM_NOW})(\.[0-9]+)?"', text) is not None or not text.strip()
 
 
 @dataclass(frozen=True)
@@ -41,6 +47,21 @@ def listed(names):
     return ", ".join(names)
 
 
+def untold(program, source, lines, now):
+    """What the program would have executed after these lines of a day, up to a moment: no line tells whether it was."""
+    execution, acts = Execution(program, source), []
+    execution.play(lines)
+    while (due := execution.told.due) is not None and due <= now:
+        told = execution.take(f"at {due}")
+        if told.refused:
+            break
+        acts += told.acts
+    if acts:
+        execution.channel.talk.show()
+    execution.close()
+    return acts
+
+
 def came_before(plan):
     """The points that had come already at the moment of which a plan is the rest."""
     return {bound.end for name, bound in plan.bounds.items() if (own := OWN.fullmatch(name)) and own[1] == CAME and name.endswith(".max")}
@@ -49,9 +70,9 @@ def came_before(plan):
 class Rest:
     """What is left of a day that stands at a moment."""
 
-    def __init__(self, source, moments, last, amendments):
+    def __init__(self, source, moments, last, amendments, scale=NUMBERS):
         self.plan, self.draft = Plan.of(source), Draft.of(source)
-        self.amendments = amendments
+        self.amendments, self.scale = amendments, scale
         self.fit(last)
         self.now = last if amendments.now is None else amendments.now
         self.moments = {point: it for point, it in (moments | amendments.came).items() if point not in amendments.not_yet}
@@ -67,9 +88,9 @@ class Rest:
         if missing := [name for name in [*told.came, *told.not_yet] if name not in self.plan.points]:
             raise Fault(unknown(missing, self.plan.points))
         if missing := [name for name in told.spans if name not in links]:
-            raise Fault("; ".join(f"no link ends in '{name}'{meant(name, links)}" for name in missing))
+            raise Fault("; ".join(f"no link ends in '{name}'{link_meant(name, self.plan.starts())}" for name in missing))
         if told.now is not None and told.now < last:
-            raise Fault(f"the lines of the day go on until {last}, so that it cannot be {told.now} now")
+            raise Fault(f"the lines of the day go on until {self.scale.text(last)}, so that it cannot be {self.scale.text(told.now)} now")
         for end, (low, high) in told.spans.items():
             if not 1 <= low <= high:
                 raise Fault(f"{end}: LOW is at least 1 and at most HIGH, and they are {low} and {high}")
@@ -78,16 +99,32 @@ class Rest:
         """Sees that nothing has come that is still to come."""
         for point, moment in self.amendments.came.items():
             if moment > self.now:
-                raise Fault(f"{point} cannot have come at {moment}, since it is {self.now} now")
+                raise Fault(f"{point} cannot have come at {self.scale.text(moment)}, since it is {self.scale.text(self.now)} now")
         for end in self.amendments.spans:
             if end in self.moments:
-                raise Fault(f"{end} has come at {self.moments[end]}, so that its link lasts no longer: --not-yet {end} takes that back")
+                came = self.scale.text(self.moments[end])
+                raise Fault(f"{end} has come at {came}, so that its link lasts no longer: --not-yet {end} takes that back")
+
+    def missing(self, program, lines):
+        """A sentence for each point that was to be executed by now after these lines of the day, and of which nothing is said."""
+        for moment, point in untold(program, self.plan.source, lines, self.now):
+            if point not in self.moments and point not in self.amendments.not_yet:
+                when = self.scale.text(moment)
+                yield f"{point} was to be executed at {when}, and no line tells that it was: if so, say it by --came {point} {when}"
+
+    def changed(self):
+        """A sentence for each link whose durations somebody has said, so that a wrong one is seen."""
+        for end, (low, high) in self.amendments.spans.items():
+            link = self.plan.links[end]
+            began = self.moments.get(link.start)
+            since = "which has not begun" if began is None else f"which began at {self.scale.text(began)}"
+            yield f"the link {end}, {since}, may last {low} to {high} now, and {link.low} to {link.high} by the plan before"
 
     def text(self, program):
         """The text of the plan of the rest."""
         overdue = [f"--link {end} {low} HIGH" for end, low in self.links()]
         if overdue:
-            raise Unsaid(f"overdue at {self.now}; say how long each may last now, from where it began: {listed(overdue)}")
+            raise Unsaid(f"overdue at {self.scale.text(self.now)}; say how long each may last now, from where it began: {listed(overdue)}")
         self.leave_out_own()
         self.bounds(program)
         self.head()

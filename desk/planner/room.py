@@ -90,12 +90,24 @@ def plan_entry(name, text):
 
 
 class Room:
-    """The vehicles of a room, and what moment it is: the latest that was told of any."""
+    """The vehicles of a room, and what moment it is: the latest that was told of any and not taken back, or a later one that was said."""
+
+    # So its journal is called.
+    KIND = "room"
 
     def __init__(self, program):
         self.program = program
-        self.vehicles, self.now = {}, 0
+        self.vehicles, self.said = {}, 0
         self.left_out = {}
+
+    @property
+    def told(self):
+        """The latest moment that was told of any vehicle."""
+        return max((it.execution.last or 0 for it in self.vehicles.values()), default=0)
+
+    @property
+    def now(self):
+        return max(self.said, self.told)
 
     def remember(self, lines):
         """Takes the vehicles and their lines out of a journal."""
@@ -113,7 +125,7 @@ class Room:
             case Mark.TAKEN_BACK:
                 self.vehicles[name].take_back()
             case Mark.NOW:
-                self.now = int(name)
+                self.said = int(name)
             case _:
                 self.vehicles[name].lines.append(rest)
 
@@ -129,8 +141,7 @@ class Room:
         for vehicle in waiting:
             if refused := vehicle.execution.tell_again(vehicle.lines):
                 line, told = refused
-                raise Fault(f"{vehicle.name} {line}: the program refuses it now: {told.refused}", Status.EVENT)
-        self.now = max([self.now, *(it.execution.last or 0 for it in waiting)])
+                raise Fault(f"{vehicle.name} {line}: the program refuses it now: {told.said}", Status.EVENT)
 
     def start_fleet(self, vehicles):
         text = "".join(f"plan {it.name}\n{it.text}" for it in vehicles)
@@ -146,7 +157,6 @@ class Room:
         told = vehicle.execution.take(line)
         if not told.refused:
             vehicle.lines.append(line)
-            self.now = max(self.now, vehicle.execution.last or 0)
         return told
 
     def forget_last(self, name):
@@ -169,12 +179,13 @@ class Room:
 
     def rows(self):
         """Where each vehicle stands: late ones first, then by what is next; last those that are over or never went."""
-        going = [self.row(it) for it in self.vehicles.values()]
+        now = self.now
+        going = [self.row(it, now) for it in self.vehicles.values()]
         order = {"late": 0, "goes on": 1, "over": 2}
         going.sort(key=lambda row: (order[row.state], row.next is None, row.next or 0))
         return going + [Row(name, "left out", why=why) for name, why in self.left_out.items()]
 
-    def row(self, vehicle):
+    def row(self, vehicle, now):
         execution = vehicle.execution
         came, links = execution.acts | execution.seen, execution.plan.links.values()
         coming = execution.coming()
@@ -183,7 +194,7 @@ class Room:
         row = Row(vehicle.name, "goes on", execution.last, execution.told.due, coming, came, begun, over)
         if execution.is_complete:
             return replace(row, state="over")
-        return replace(row, state="late") if row.next is not None and row.next < self.now else row
+        return replace(row, state="late") if row.next is not None and row.next < now else row
 
     def talks(self):
         """The talks that go on, each once."""

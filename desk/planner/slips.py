@@ -30,6 +30,15 @@ def meant(word, names):
     return f"; was '{near}' meant?" if near else ""
 
 
+def link_meant(name, starts):
+    """What a name by which no link goes was most likely to be, as the end of a sentence.
+
+    `starts` has the point in which each link starts, by that in which it ends.
+    """
+    ends = [f"'{end}'" for end, start in starts.items() if start == name]
+    return f"; a link goes by the point in which it ends: {' or '.join(ends)} from '{name}'" if ends else meant(name, starts)
+
+
 def alike(word, names, most=4):
     """The names that may have been meant: the one that differs by noughts before its numbers alone, else those most like the word."""
     same = [name for name in names if short(name) == short(word)]
@@ -46,6 +55,12 @@ def unknown(words, known):
     return "; ".join(f"the plan has no {quoted(word)}{meant(word, known)}" for word in words if word not in known)
 
 
+def without_line(said):
+    """What the program says of a line, without its number: it counts lines that nobody else sees."""
+    words = said.split()
+    return " ".join(words[3:]) if words[:1] == ["error"] and len(words) > 3 else said
+
+
 def slip_of_word(word, known):
     """A first word that is none."""
     return f"{quoted(word)} begins no line here{meant(word.lower(), known) or ';'} 'help' lists the lines"
@@ -60,7 +75,8 @@ def slip_of_edit(words, said, draft):
     wanted = f"wanted: {' '.join(words[:2])} {form}"
     given = dict(zip(form.split(), words[2:]))
     if len(words) - 2 != len(form.split()):
-        return f"{len(words) - 2} words stand after '{' '.join(words[:2])}'; {wanted}"
+        count = len(words) - 2
+        return f"{count} word{' stands' if count == 1 else 's stand'} after '{' '.join(words[:2])}'; {wanted}"
     for place, word in given.items():
         if place in NUMBERS and not WHOLE.fullmatch(word):
             return f"{quoted(word)}: {about_number(word, place)}; {wanted}"
@@ -85,6 +101,19 @@ def slip_of_edit(words, said, draft):
     return ""
 
 
+def slip_of_call(words, said, draft):
+    """What is the matter with a question about the plan that was refused with this line."""
+    points = draft.names("point", 1)
+    match words, said.split():
+        case ["deadline", start, end], ["error", _, _, "unknown-name"]:
+            return f"the program says: unknown-name; {unknown([start, end], points)}"
+        case ["deadline", *names], _:
+            return "wanted: deadline FROM TO" + (f"; {slip}" if (slip := unknown(names, points)) else "")
+        case ["play", *days], _:
+            return "wanted: play shortest, play longest or play NUMBER" + (meant(days[0], ("shortest", "longest")) if days else "")
+    return f"the program says: {said}; no words stand after '{words[0]}'"
+
+
 def unknown_in_edit(words, given, draft):
     """Which name of an edit the plan does not have."""
     points = draft.names("point", 1)
@@ -92,8 +121,10 @@ def unknown_in_edit(words, given, draft):
         case ["set" | "drop", "bound", name] if draft.has_between(name):
             number = f" {words[3]}" if words[0] == "set" else ""
             return f"{name} is a line between: {words[0]} bound {name}.max{number} is its HIGH, {words[0]} between {name} .. both"
+        case ["set" | "drop", "bound" | "between", name] if bound := draft.lone_bound(name):
+            return f"{bound} is a bound, and no line between: {words[0]} bound {bound}" + (" MOST" if words[0] == "set" else "")
         case ["set" | "drop", "bound" | "between", name]:
             return unknown([name], draft.bounds() if words[1] == "bound" else draft.names("between", 1))
         case ["set" | "drop", "link", name]:
-            return f"no link ends in {quoted(name)}{meant(name, draft.names('link', 4))}"
+            return f"no link ends in {quoted(name)}{link_meant(name, draft.starts())}"
     return unknown([word for place, word in given.items() if place in ("FROM", "TO") or words[:2] == ["drop", "point"]], points)

@@ -2,7 +2,7 @@
 
 from dataclasses import dataclass
 
-from planner.certificate import OVER_LINK, SUMS, Rule
+from planner.certificate import SUMS, Rule
 
 # So many reasons are told one by one in a sentence.
 MANY = 6
@@ -131,7 +131,10 @@ class Telling:
         labels = list(dict.fromkeys(step.label for step in steps if step.label))
         given = f"If {' and '.join(labels)} take{'' if len(labels) > 1 else 's'} the longest, these" if labels else "These"
         text = f"{given} cannot be together: {self.told_reasons(steps)}; {total} {'is' if total == 1 else 'are'} wanting."
-        return Sentence(steps[-1].number, text)
+        # The lines of the walk come after all others; the last is that of the sum.
+        first = len(self.refutation.steps) + 1
+        last = first + len(steps) - 1
+        return Sentence(last, text, tuple(range(first, last)))
 
     def condition(self, step):
         """Under which condition a step with a label says what it says."""

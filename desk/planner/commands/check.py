@@ -1,22 +1,24 @@
 """Says whether a plan can be kept whatever nature does.
 
 --proof keeps the certificate, a proof or a refutation, in a file. --judge has a certificate of a file judged, whoever made it: then nothing
-is decided anew, and the status is that of what the certificate shows.
+is decided anew, and the status is that of what the certificate shows. One that is refused shows nothing: that is told with its line and the
+reason, and the status is 1.
 """
 
 from planner.explain import refusal, said_by
 from planner.faults import Fault, Status, hint, told_by_system
+from planner.kept import spare, write_whole
 from planner.options import add_plan
-from planner.output import ENCODING, hand_on, tell
-from planner.plan import load, text_of
-from planner.program import Source
+from planner.output import hand_on, tell
+from planner.plan import STANDARD_INPUT, load
+from planner.refused import Certificate, refusal_of
+from planner.slips import without_line
 
 EXAMPLE = """
   planner check examples/rover/plan.stnu
   planner check examples/rover/variant.stnu --proof refutation.cert
   planner check examples/rover/variant.stnu --judge refutation.cert"""
 
-VERDICTS = ("controllable", "not controllable")
 SHOWN = {"accepted controllable": Status.KEPT, "accepted not controllable": Status.NOT_KEPT}
 
 
@@ -31,11 +33,13 @@ def run(args):
     source = load(args.plan, args.delay)
     if args.judge:
         return judged(args, source)
+    if args.proof:
+        spare(args.proof, args.plan)
     answer = args.program.call(["check", *(["--proof"] if args.proof else [])], source)
     if answer.is_refused:
         raise refusal(source, answer, args.plan)
     if args.proof:
-        write(args.proof, answer.certificate())
+        write(args.proof, "".join(f"{line}\n" for line in answer.certificate()))
     if args.json:
         hand_on({"plan": args.plan, "answer": answer.first, "certificate": args.proof})
     else:
@@ -45,24 +49,25 @@ def run(args):
     return Status(answer.status)
 
 
-def write(path, lines):
+def write(path, text):
     try:
-        with open(path, "w", **ENCODING) as file:
-            file.writelines(f"{line}\n" for line in lines)
+        write_whole(path, text)
     except OSError as why:
         raise Fault(told_by_system(why), Status.WRITE) from why
 
 
 def judged(args, source):
     """Has a certificate judged, with the verdict above it or without."""
+    if args.judge == args.plan == STANDARD_INPUT:
+        raise Fault("standard input is either the plan or the certificate: name a file for one of them")
     shown = args.program.call(["show"], source.with_delay(None), is_shown=False)
     if shown.is_refused:
         raise refusal(source, shown, args.plan)
-    certificate = certificate_of(args.judge)
-    answer = args.program.call(["judge"], source, certificate)
-    status = SHOWN.get(answer.first)
-    if status is None:
-        raise Fault(f"{args.judge}: the program says: {said_by(answer)}{about(answer, source, certificate)}", Status.PLAN)
+    certificate = Certificate.of(args.judge)
+    answer = args.program.call(["judge"], source, certificate.source)
+    if answer.first not in SHOWN:
+        return refused(args, answer, refusal_of(said_by(answer), source, certificate))
+    status = SHOWN[answer.first]
     if args.json:
         hand_on({"plan": args.plan, "answer": answer.first, "certificate": args.judge})
     else:
@@ -70,25 +75,14 @@ def judged(args, source):
     return status
 
 
-def certificate_of(path):
-    """The certificate of a file, without the verdict that `check` prints above it."""
-    text = text_of(path)
-    first, _, rest = text.partition("\n")
-    file = None if path == "-" else path
-    if first.strip() in VERDICTS:
-        return Source(rest, file=file).cut(1)
-    return Source(text, file=file)
-
-
-def about(answer, source, certificate):
-    """The line of a certificate at which it is refused."""
-    words = answer.first.split()
-    lines = certificate.text.split("\n")
-    if words[:1] == ["refused"]:
-        rules = [line for line in lines if line.split() and not line.lstrip().startswith("#")]
-        number = int(words[1]) + 1
-        return f": {rules[number]}" if number > 1 and number < len(rules) else ""
-    if words[:2] == ["error", "format"]:
-        number = int(words[2]) - source.text.count("\n") - 1
-        return f": {lines[number]}" if 0 <= number < len(lines) and lines[number] else ": is it a certificate, whole, with its line 'end'?"
-    return ""
+def refused(args, answer, why):
+    """Tells why a certificate is refused. One that is no certificate is at fault itself."""
+    if answer.status != Status.NOT_KEPT:
+        raise Fault(f"{why}\nthe program says: {without_line(said_by(answer))}", answer.status)
+    if args.json:
+        told = {"line": why.line, "why": why.why}
+        hand_on({"plan": args.plan, "answer": answer.first, "certificate": args.judge, **told})
+    else:
+        tell(f"the certificate shows nothing; the program says: {answer.first}")
+        tell(str(why))
+    return Status.NOT_KEPT

@@ -15,12 +15,14 @@ After each line the points to be executed are told, the next moment that is to b
 import argparse
 from dataclasses import asdict
 
-from planner.drawing.scale import CLOCK_HELP, scale_of
-from planner.execution import EVENTS, Execution, in_numbers, slip_of_event
+from planner.drawing.scale import scale_of
+from planner.execution import EVENTS, Execution, as_typed, in_numbers, slip_of_event
 from planner.faults import Fault, Status, say, told_by_system
 from planner.journal import UNDO
 from planner.kept import add_words as add_shared
 from planner.kept import journal_of, plan_of
+from planner.mended import Refused
+from planner.options import add_clock
 from planner.output import hand_on, tell
 from planner.rest import came_before
 from planner.slips import slip_of_word
@@ -36,13 +38,13 @@ WORDS = (*EVENTS, UNDO, "status", "help", "end")
 
 def add_words(parser):
     add_shared(parser, ENDING)
-    parser.add_argument("--clock", metavar="TIME", help=CLOCK_HELP)
+    add_clock(parser)
 
 
 def words_of_call(args, plan):
     """The words of a call for the day of a plan, with what is common to all commands."""
-    common = {name: getattr(args, name) for name in ("program", "delay", "json", "show_calls")}
-    return argparse.Namespace(**common, plan=plan, lines=None, plan_changed=False, clock=None)
+    common = {name: getattr(args, name) for name in ("program", "delay", "json", "show_calls", "clock")}
+    return argparse.Namespace(**common, plan=plan, lines=None, plan_changed=False)
 
 
 def run(args):
@@ -65,7 +67,7 @@ class Day:
 
     def __init__(self, args, execution, journal):
         self.args, self.execution, self.journal = args, execution, journal
-        self.scale, self.is_refused = scale_of(args.clock), False
+        self.scale, self.refused = scale_of(args.clock), Refused(lambda: execution.plan.points)
 
     def play_again(self):
         """Tells again what is kept of the day, and where it stands."""
@@ -74,7 +76,8 @@ class Day:
             say(f"{self.journal.path}: {len(lines)} line{'' if len(lines) == 1 else 's'} told again")
         if refused := self.execution.play(lines):
             line, told = refused
-            why = f"'{line}' is refused now; the program says: {told.refused}; {slip_of_event(line, told, self.execution)}"
+            slip = slip_of_event(line, told, self.execution, self.scale)
+            why = f"'{as_typed(line, self.scale)}' is refused now; the program says: {told.said}; {slip}"
             raise Fault(f"{self.journal.path}: {why}. Is it the day of another plan? --lines FILE begins anew", Status.EVENT)
         self.answer(lines[-1] if lines else "", self.execution.told)
 
@@ -88,24 +91,28 @@ class Day:
             case [word] if word.lower() == UNDO:
                 self.undo()
             case [word] if word.lower() == "status":
+                self.refused.take(line, is_question=True)
                 self.answer(line, self.execution.told)
             case [word] if word.lower() == "help":
                 for said in __doc__.split("\n\n")[2].split("\n"):
                     tell(said)
             case [word, *rest] if word.lower() in EVENTS:
-                self.event(" ".join(in_numbers([word.lower(), *rest], self.scale)))
+                self.event(" ".join([word.lower(), *rest]))
             case [word, *_]:
                 self.refuse(line, slip_of_word(word, WORDS))
 
-    def event(self, line):
+    def event(self, typed):
+        """Tells a line as it was typed, in the moments of the plan."""
+        line = " ".join(in_numbers(typed.split(), self.scale))
         if self.execution.is_complete:
-            self.refuse(line, "the day is over; 'undo' takes its last line back, 'end' leaves")
+            self.refuse(typed, "the day is over; 'undo' takes its last line back, 'end' leaves")
             return
         told = self.execution.take(line)
         if told.refused:
             slip = slip_of_event(line, told, self.execution, self.scale)
-            self.refuse(line, f"the program says: {told.refused}" + (f"; {slip}" if slip else "") + self.what_then(line, told))
+            self.refuse(typed, f"the program says: {told.said}" + (f"; {slip}" if slip else "") + self.what_then(typed, told))
         elif self.keep(line):
+            self.refused.take(typed)
             self.answer(line, told)
         else:
             self.execution.play(self.execution.lines[:-1])
@@ -115,7 +122,8 @@ class Day:
         if not told.is_of_another_day:
             return ""
         now, name = line.split()[1], told.why[1]
-        call = f"planner rest {self.args.plan} {self.journal.path} --now {now} --link {name} LOW HIGH"
+        clock = f" --clock {self.args.clock}" if self.args.clock else ""
+        call = f"planner rest {self.args.plan} {self.journal.path} --now {now} --link {name} LOW HIGH{clock}"
         return f". If the day went so, what is left of it is a new plan: {call}"
 
     def undo(self):
@@ -124,7 +132,8 @@ class Day:
             self.refuse(UNDO, "there is no line to take back")
         elif self.keep(UNDO):
             self.execution.play(lines[:-1])
-            self.answer(UNDO, self.execution.told, f"taken back: {lines[-1]}")
+            self.refused.take(UNDO, is_question=True)
+            self.answer(UNDO, self.execution.told, f"taken back: {as_typed(lines[-1], self.scale)}")
 
     def keep(self, line):
         """Keeps a line in the journal; whether it is on the disk."""
@@ -169,7 +178,7 @@ class Day:
         }
 
     def refuse(self, line, why):
-        self.is_refused = True
+        self.refused.refuse(line)
         if self.args.json:
             hand_on({"line": line, "taken": False, "why": why})
         else:
@@ -181,4 +190,4 @@ class Day:
         self.execution.channel.talk.show()
         self.execution.close()
         self.journal.close()
-        return Status.EVENT if self.is_refused and not is_terminal() else Status.KEPT
+        return Status.EVENT if self.refused and not is_terminal() else Status.KEPT

@@ -5,14 +5,17 @@
 of the plan; --link END: the interval that a link may take, each side alone; --seen: the greatest delay. All else stays as the plan has it.
 """
 
+from pathlib import Path
+
 from planner.certificate import Numbers
 from planner.explain import refusal, said_by
 from planner.faults import Fault, Status
 from planner.limits import greatest_delay, interval_of
 from planner.output import hand_on, tell
-from planner.parts import LARGEST
-from planner.plan import STANDARD_INPUT, Plan, load, read, written_out
-from planner.reader import nearest
+from planner.parts import LARGEST, LARGEST_DELAY
+from planner.plan import ENDINGS, STANDARD_INPUT, Plan, load, read, written_out
+from planner.reader import is_name, nearest
+from planner.slips import link_meant, meant
 
 EXAMPLE = """
   planner deadline examples/rover/plan.stnu sunrise images
@@ -33,6 +36,10 @@ def run(args):
     match args.words:
         case [] | [_] if sum(asked) == 1 and not args.certificate:
             path = args.words[0] if args.words else STANDARD_INPUT
+        case [path, start] if not any(asked) and is_file(path):
+            raise Fault(f"TO is missing: wanted are a plan, FROM and TO, and '{path}' is the plan, '{start}' FROM")
+        case [path] if not any(asked) and is_file(path):
+            raise Fault(f"FROM and TO are missing, or one of --bound NAME, --link END and --seen, of the plan {path}")
         case [start, end] if not any(asked):
             return promised(args, STANDARD_INPUT, start, end)
         case [path, start, end] if not any(asked):
@@ -43,6 +50,11 @@ def run(args):
     if args.bound is not None:
         return tightest(args, plan, args.bound)
     return longest(args, plan, args.link) if args.link is not None else latest_seen(args, plan)
+
+
+def is_file(word):
+    """Whether a word of the call is meant as the plan's file: it is there, or looks like one, or is no name of a point."""
+    return Path(word).exists() or Path(word).suffix in ENDINGS or word == STANDARD_INPUT or not is_name(word)
 
 
 def taken(program, source, path):
@@ -76,8 +88,8 @@ def unknown_point(source, answer, points):
     for point in points:
         if not any(it.is_fault for it in findings) and point not in built.points:
             near = nearest(point, built.points)
-            meant = f"; the nearest is '{near}' (line {built.points[near].line})" if near else ""
-            return Fault(f"the program says: {said_by(answer)}\nthe plan has no point '{point}'{meant}")
+            where = f"; the nearest is '{near}' (line {built.points[near].line})" if near else ""
+            return Fault(f"the program says: {said_by(answer)}\nthe plan has no point '{point}'{where}")
     return None
 
 
@@ -105,7 +117,7 @@ def tightest(args, plan, name):
     """Tells the least number of a bound of the plan: the deadline of its two points where the bound itself says nothing."""
     bound = plan.bounds.get(name) or next((it for it in plan.bounds.values() if plan.name_on_line(it.name) == name), None)
     if bound is None:
-        raise unknown(name, "bound", plan.bounds)
+        raise Fault(f"the plan has no bound '{name}'{meant(name, plan.bounds)}")
     source = written_out(args.program, plan.with_numbers({bound.name: LARGEST}))
     answer = args.program.call(["deadline", bound.start, bound.end], source)
     if answer.is_refused:
@@ -123,7 +135,7 @@ def tightest(args, plan, name):
 def longest(args, plan, end):
     """Tells how long and how short a link may be."""
     if end not in plan.links:
-        raise unknown(end, "link", plan.links)
+        raise Fault(f"the plan has no link '{end}'{link_meant(end, plan.starts())}")
     link, (low, high) = plan.links[end], interval_of(args.program, plan, end)
     if args.json:
         hand_on({"link": end, "line": link.line, "interval": [link.low, link.high], "shortest": low, "longest": high})
@@ -148,10 +160,6 @@ def latest_seen(args, plan):
     elif delay is None:
         tell("the plan cannot be kept, however soon completions are seen")
     else:
-        tell(f"completions may be seen up to {delay} late (in the plan {plan.delay})")
+        limit = ", the greatest delay that a plan may have" if delay == LARGEST_DELAY else ""
+        tell(f"completions may be seen up to {delay} late{limit} (in the plan {plan.delay})")
     return Status.NOT_KEPT if delay is None else Status.KEPT
-
-
-def unknown(name, what, names):
-    near = nearest(name, names)
-    return Fault(f"the plan has no {what} '{name}'" + (f"; the nearest is '{near}'" if near else ""))

@@ -2,7 +2,8 @@
 
 Each edit is on the disk, in a file beside the plan, before it is answered: whatever happens, the same call goes on where it was. A line
 that is refused is told why, and leaves all as it stood. At the end, and before 'go', the plan with its edits is written to a file of its
-own, with the remarks, the lines 'between' and the names of the plan; the file of the plan itself is never written.
+own, with the remarks, the lines 'between' and the names of the plan; the file of the plan itself is never written. A file whose name
+ends in .json is written as a JSON document.
 
   edits      add point NAME, add bound NAME FROM TO MOST,
              add between NAME FROM LOW HIGH TO, add link FROM LOW HIGH TO,
@@ -17,13 +18,16 @@ own, with the remarks, the lines 'between' and the names of the plan; the file o
 
 from planner.commands import day
 from planner.desk_session import QUESTIONS, Desk
+from planner.drawing.scale import scale_of
 from planner.faults import Fault, Status, say, told_by_system
 from planner.journal import UNDO, beside
 from planner.kept import add_words as add_shared
 from planner.kept import journal_of, plan_of, write_own
+from planner.mended import Refused
+from planner.options import add_clock
 from planner.output import hand_on, tell
-from planner.plan import STANDARD_INPUT
-from planner.slips import EDITS, slip_of_edit, slip_of_word
+from planner.plan import DOCUMENT, STANDARD_INPUT, TEXT, source_of
+from planner.slips import EDITS, slip_of_call, slip_of_edit, slip_of_word, without_line
 from planner.typed import complete_by, is_terminal, typed
 
 EXAMPLE = """
@@ -34,6 +38,8 @@ ENDING = ".edits"
 # Questions that a call answers of the plan as it stands.
 CALLS = ("deadline", "play", "strong")
 VERDICTS = {"controllable": "the plan can be kept", "not controllable": "the plan cannot be kept: 'proof' says why"}
+# What a session cannot say of an edit that it does not have.
+NO_REPORT = "nothing to report: 'set delay' has begun the session anew, so that all is derived again"
 # Words that somebody may type for others.
 ALIKE = {"show": "plan", "print": "plan", "check": "verdict"}
 KINDS = ("point", "bound", "between", "link", "delay")
@@ -42,11 +48,14 @@ WORDS = (*EDITS, *QUESTIONS, "plan", *CALLS, UNDO, "write", "go", "help", "end")
 
 def add_words(parser):
     add_shared(parser, ENDING)
-    out_help = "the file for the plan with its edits (beside the plan, with the ending .edited.stnu)"
+    out_help = "the file for the plan with its edits (beside the plan, with the ending .edited.stnu, or .edited.json for a document)"
     parser.add_argument("--out", metavar="FILE", help=out_help)
+    add_clock(parser, "of the day after 'go': ")
 
 
 def run(args):
+    # (a clock that is none is told before anything is typed)
+    scale_of(args.clock)
     source = plan_of(args)
     journal = journal_of(args, "edit", ENDING, source)
     editing = Editing(args, Desk(args.program, source), journal)
@@ -66,7 +75,7 @@ class Editing:
 
     def __init__(self, args, desk, journal):
         self.args, self.desk, self.journal = args, desk, journal
-        self.is_refused = False
+        self.refused = Refused(lambda: self.desk.draft.all_names())
 
     def play_again(self):
         lines = self.journal.kept()
@@ -76,12 +85,12 @@ class Editing:
 
     def played(self, lines):
         for line, said in self.desk.play(lines):
-            self.is_refused = True
+            self.refused.refuse(line)
             say(f"{self.journal.path}: '{line}' is refused now, and is not in the plan: {self.told(line.split(), said.last)}")
 
     def told(self, words, said):
         slip = slip_of_edit(words, said, self.desk.draft)
-        return f"the program says: {said}" + (f"; {slip}" if slip else "")
+        return f"the program says: {without_line(said)}" + (f"; {slip}" if slip else "")
 
     def take(self, line):
         words = line.split()
@@ -135,12 +144,14 @@ class Editing:
             case ["plan"]:
                 self.answer(line, [it.text for it in self.desk.draft.lines])
             case ["write"]:
-                self.write(self.out())
+                self.write(self.out(), line)
             case ["write", path]:
-                self.write(path)
+                self.write(path, line)
             case ["verdict"]:
                 said = self.desk.ask(line)
                 self.answer(line, [VERDICTS.get(said[0], said[0])])
+            case ["report"] if self.desk.is_begun_anew():
+                self.answer(line, [NO_REPORT])
             case [word] if word in QUESTIONS:
                 self.answer(line, self.desk.ask(line))
             case [word, *_] if word in CALLS:
@@ -152,12 +163,13 @@ class Editing:
         """Asks the program about the plan as it stands, and prints all but certificates."""
         said = self.args.program.call(words, self.desk.draft.source())
         if said.is_refused:
-            self.refuse(" ".join(words), f"the program says: {said.first}")
+            self.refuse(" ".join(words), slip_of_call(words, said.first, self.desk.draft))
             return
         certificate = said.lines.index("certificate 1") if "certificate 1" in said.lines else len(said.lines)
         self.answer(" ".join(words), said.lines[:certificate])
 
     def answer(self, line, lines):
+        self.refused.take(line, is_question=line.split()[0] not in EDITS)
         if self.args.json:
             hand_on({"line": line, "taken": True, "answer": lines})
         else:
@@ -165,7 +177,7 @@ class Editing:
                 tell(said)
 
     def refuse(self, line, why):
-        self.is_refused = True
+        self.refused.refuse(line)
         if self.args.json:
             hand_on({"line": line, "taken": False, "answer": [why]})
         else:
@@ -174,19 +186,24 @@ class Editing:
     def out(self):
         if self.args.out is None and self.args.plan == STANDARD_INPUT:
             raise Fault("name a file for the plan with its edits by --out")
-        return self.args.out or beside(self.args.plan, ".edited.stnu")
+        return self.args.out or beside(self.args.plan, f".edited{DOCUMENT if self.desk.is_document else TEXT}")
 
-    def write(self, path):
-        """Writes the plan as it stands, once the program has read its text as the plan that the session has. Whether it is written."""
-        if not self.desk.is_as_the_session_has_it():
+    def write(self, path, line="write"):
+        """Writes the plan as it stands, once the program has read its text as the plan that the session has. Whether it is written.
+
+        `line` is what was typed, by which it is told if it is not.
+        """
+        text = self.desk.draft.written(path)
+        if not self.desk.is_as_the_session_has_it(source_of(text, STANDARD_INPUT)):
             raise Fault("the program reads the text with its edits as another plan than that of its session", Status.DEFECT)
         try:
-            write_own(path, self.desk.draft.source().text, self.journal, self.args.plan)
+            write_own(path, text, self.journal, self.args.plan)
         except OSError as why:
-            self.refuse("write", f"the plan could not be written, {told_by_system(why)}; its edits are in {self.journal.path}")
+            self.refuse(line, f"the plan could not be written, {told_by_system(why)}; its edits are in {self.journal.path}")
         except Fault as why:
-            self.refuse("write", str(why))
+            self.refuse(line, str(why) if line == f"write {path}" else f"{why} by --out")
         else:
+            self.refused.take(line, is_question=True)
             return True
         return False
 
@@ -195,10 +212,11 @@ class Editing:
         if self.desk.ask("verdict") != ["controllable"]:
             self.refuse("go", VERDICTS["not controllable"])
             return False
-        return self.write(self.out())
+        return self.write(self.out(), "go")
 
     def go(self):
         """Goes on with the day of the plan that was written."""
+        self.refused.take("go")
         self.close()
         return day.run(day.words_of_call(self.args, str(self.out()))) or self.status()
 
@@ -209,7 +227,7 @@ class Editing:
 
     def status(self):
         """Whether a line was refused, where nobody at a terminal saw it."""
-        return Status.EVENT if self.is_refused and not is_terminal() else Status.KEPT
+        return Status.EVENT if self.refused and not is_terminal() else Status.KEPT
 
     def close(self):
         self.desk.talk.show()

@@ -2,7 +2,8 @@
 
 Each line tells the file and the line in it, the word at fault and what is the matter with it; then comes what the program itself says
 of the plan. Warned of are text after the line 'end', points that nothing binds, links that nothing waits for, bounds whose ends look
-exchanged or whose sign looks forgotten, a LOW above the HIGH of a 'between', and remarks '# fixed' that hold nothing.
+exchanged or whose sign looks forgotten, a LOW above the HIGH of a 'between', and remarks '# fixed' that hold nothing. As long as a plan has
+a fault, it is not warned of what the lines at fault may bind or order.
 """
 
 from collections import defaultdict
@@ -46,13 +47,15 @@ def looked_at(args, path):
 
 def findings_of(source, answer, text):
     """What is found in a plan: faults, where the program has refused it too, and warnings."""
-    _, _, findings = read(source)
+    reading, built, findings = read(source)
     faults = [it for it in findings if it.is_fault]
-    if (faults[0].told if faults else "") != ("" if answer.is_kept else said_by(answer)):
+    slips = lines_after_end(text, source)
+    if (faults[0].told if faults else "") == ("" if answer.is_kept else said_by(answer)):
+        slips += warnings_of(Plan.of_parts(source, reading, built), is_whole=not faults)
+    else:
         say(f"planner reads this plan otherwise than the program, which says: {said_by(answer)}")
         faults = []
-    slips = warnings_of(Plan.of(source)) if answer.is_kept else []
-    return sorted([*faults, *slips, *lines_after_end(text, source)], key=lambda finding: finding.line)
+    return sorted([*faults, *slips], key=lambda finding: finding.line)
 
 
 def lines_told(path, findings):

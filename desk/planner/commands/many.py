@@ -17,14 +17,13 @@ from pathlib import Path
 from planner.faults import Fault, Status, say
 from planner.options import whole_number
 from planner.output import hand_on, tell
-from planner.plan import load, read
+from planner.plan import ENDINGS, load, read
 from planner.reader import quoted
 
 EXAMPLE = """
   planner many examples
   planner many --json plans/monday.stnu plans/tuesday.json"""
 
-ENDINGS = (".stnu", ".json")
 # For so few plans it takes longer to look for the program behind its launcher than to launch it.
 FEW = 50
 
@@ -53,7 +52,7 @@ def run(args):
         except BaseException:
             pool.shutdown(wait=False, cancel_futures=True)
             raise
-    say(f"{len(files)} plans: " + ", ".join(f"{count} {kind}" for kind, count in sorted(counts.items())))
+    say(f"{len(files)} plan{'' if len(files) == 1 else 's'}: " + ", ".join(f"{count} {kind}" for kind, count in sorted(counts.items())))
     return Status(worst)
 
 

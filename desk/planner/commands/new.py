@@ -1,12 +1,13 @@
 """Prints a plan to begin with: one for each kind of day, short, with remarks that say what to change.
 
 Without a word the kinds are listed. Each is a whole plan that can be kept. Change its names and numbers, and have 'planner lint' and
-'planner check' look at it as you go; 'planner draw' shows its days.
+'planner check' look at it as you go; 'planner draw' shows its days. With --json, or in a file whose name ends in .json, it is a JSON
+document, which has no remarks.
 """
 
 from pathlib import Path
 
-from planner.explain import refusal
+from planner.draft import Draft, is_document_file
 from planner.faults import Fault, Status, told_by_system
 from planner.output import ENCODING, hand_on, tell
 from planner.plan import load
@@ -50,7 +51,8 @@ def run(args):
         near = nearest(args.kind, found)
         raise Fault(f"there is no plan for '{args.kind}'; " + (f"was '{near}' meant?" if near else f"the kinds are {', '.join(found)}"))
     path = found[args.kind]
-    text = document_of(args.program, path) if args.json else path.read_text(encoding="utf-8")
+    is_document = args.json or (args.output is not None and is_document_file(args.output))
+    text = document_of(path) if is_document else path.read_text(encoding="utf-8")
     if args.output is None:
         tell(text.removesuffix("\n"))
     else:
@@ -67,13 +69,9 @@ def list_kinds(found, is_for_programs):
             tell(f"{name:{widest}}  {about(path)}")
 
 
-def document_of(program, path):
-    """The plan as a JSON document, as the program writes it, without the line `end` after it, so that it is one."""
-    source = load(str(path))
-    answer = program.call(["show", "--print-json"], source)
-    if not answer.is_kept:
-        raise refusal(source, answer, str(path))
-    return "".join(f"{line}\n" for line in answer.lines[:-1])
+def document_of(path):
+    """The plan as a JSON document."""
+    return Draft.of(load(str(path))).document()
 
 
 def write_new(path, text):

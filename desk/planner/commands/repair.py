@@ -1,6 +1,6 @@
 """Finds what can be changed of a plan that cannot be kept, so that it can be.
 
-It prints each bound that alone, loosened as little as is enough, repairs the plan; the delay that does; where no bound alone is enough,
+It prints each bound that alone, loosened as little as is enough, repairs the plan; the delay that does; if no bound alone is enough,
 smallest sets of bounds that do together, with an amount each; and each link that does, if nature can be held to a shorter interval.
 Each repair is checked by the program before it is printed.
 
@@ -17,8 +17,8 @@ from planner.faults import Fault, Status
 from planner.options import add_plan
 from planner.output import hand_on, tell
 from planner.plan import Plan, called, load
-from planner.reader import nearest
 from planner.repair import Permits, Repairs, Sort, overdue
+from planner.slips import link_meant, meant
 from planner.trials import Progress, Trials
 
 EXAMPLE = """
@@ -70,7 +70,7 @@ def run(args):
             report.add(repair, trials.source_with(repair.numbers))
             if args.first:
                 return Status.NOT_KEPT
-    report.end(refutation, permits)
+    report.end([it for it in trials.refutations if it.stands(trials.base)], permits)
     return Status.NOT_KEPT
 
 
@@ -79,8 +79,8 @@ def known(plan, names):
     all_names = {"delay", *plan.bounds, *plan.links, *map(plan.name_on_line, plan.bounds)}
     for name in names:
         if name not in all_names:
-            near = nearest(name, all_names)
-            raise Fault(f"the plan has no bound and no link '{name}'" + (f"; was '{near}' meant?" if near else ""))
+            how = link_meant(name, plan.starts()) if name in plan.points else meant(name, all_names)
+            raise Fault(f"the plan has no bound and no link '{name}'{how}")
     return names
 
 
@@ -112,28 +112,37 @@ class Report:
             tell("the plan cannot be kept")
 
     def add(self, repair, source):
+        is_next = repair.sort not in self.sorts or repair.sort == Sort.SET
+        before = "or " if self.sorts else ""
+        self.sorts.append(repair.sort)
         if self.args.json:
             changes = [{"name": it.name, "line": it.line, "from": it.old, "to": it.new} for it in repair.changes]
             hand_on({"repair": repair.sort.value, "changes": changes, "answer": "controllable"})
             return
-        if repair.sort not in self.sorts or repair.sort == Sort.SET:
-            tell(("or " if self.sorts else "") + HEADS[repair.sort])
-        self.sorts.append(repair.sort)
+        if is_next:
+            tell(before + HEADS[repair.sort])
         for change in repair.changes:
-            tell(f"  {change.name} {shown(change.old)} -> {shown(change.new)}{self.line(change, source)}")
+            tell(f"  {change.name} {shown(change.old)} -> {shown(change.new)}{self.line(repair.sort, change, source)}")
 
-    def line(self, change, source):
+    def line(self, sort, change, source):
         """The line of the plan that a change writes."""
         if change.line is None:
             return ""
         place = f"{called(self.args.plan)}:{change.line}"
         if "--json" in source.words:
             return f"  ({place})"
-        return f"  ({place}: {' '.join(source.text.split(chr(10))[change.line - 1].split())})"
+        # (a delay is tried by a word of the call)
+        line = f"delay {change.new}" if sort == Sort.DELAY else source.text.split("\n")[change.line - 1]
+        return f"  ({place}: {' '.join(line.split())})"
 
-    def end(self, refutation, permits):
-        """Says what was left as it is."""
-        left = {name: permits.reason(name) for name in refutation.bounds if not permits.is_loosenable(name)}
+    def end(self, refutations, permits):
+        """Says what was left as it is: of the first refutation all, of further ones what is held fast, and all if no more is in one."""
+        first, *others = refutations
+        names = list(first.bounds)
+        for it in others:
+            is_closed = not any(map(permits.is_loosenable, it.bounds))
+            names += [name for name in it.bounds if is_closed or permits.is_fixed(name)]
+        left = {name: permits.reason(name) for name in names if not permits.is_loosenable(name)}
         if self.args.json:
             if not self.sorts:
                 hand_on({"repair": None, "left": left})

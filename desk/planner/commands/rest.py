@@ -15,19 +15,28 @@ before once more.
 
 import argparse
 import re
+from pathlib import Path
 
+from planner.commands import day, edit
 from planner.desk_session import Desk
+from planner.draft import Draft
+from planner.drawing.scale import scale_of
 from planner.execution import Execution, slip_of_event
 from planner.faults import Fault, Status, say
-from planner.journal import kept
+from planner.journal import Head, kept
 from planner.kept import is_same_file, write_whole
-from planner.options import whole_number
+from planner.options import add_clock
 from planner.output import hand_on
 from planner.parts import LARGEST
-from planner.plan import STANDARD_INPUT, load, text_of
+from planner.plan import STANDARD_INPUT, called, load, text_of
 from planner.program import Source
-from planner.rest import Amendments, Rest, Unsaid
-from planner.slips import EDITS
+from planner.rest import Amendments, Rest, Unsaid, is_of_rest
+from planner.reader import quoted
+from planner.room import Room
+from planner.slips import EDITS, meant
+
+# So begin the lines of days, and of sessions.
+LINES = {*day.WORDS, *edit.WORDS}
 
 EXAMPLE = """
   planner rest examples/rover/plan.stnu examples/rover/late.events --link arrive 115 140 --not-yet warm-up > rest.stnu"""
@@ -37,24 +46,25 @@ def add_words(parser):
     parser.add_argument("plan", metavar="PLAN", help="the file of the day's plan, a plan text or a JSON document")
     parser.add_argument("lines", nargs="?", default=STANDARD_INPUT, metavar="LINES", help="the lines of the day so far (standard input)")
     parser.add_argument("--vehicle", metavar="NAME", help="take the lines of this plan out of those of a fleet or a room, without the name")
-    parser.add_argument("--out", metavar="FILE", help="write the plan to this file (standard output)")
+    out_help = "write the plan to this file, as a JSON document if its name ends in .json (standard output)"
+    parser.add_argument("--out", metavar="FILE", help=out_help)
+    add_clock(parser)
     add_amendments(parser)
 
 
 def add_amendments(parser):
     """Adds the words for what the lines of a day do not tell."""
-    moment = whole_number(0, LARGEST)
-    parser.add_argument("--now", type=moment, metavar="MOMENT", help="what moment it is (that of the last line)")
+    parser.add_argument("--now", metavar="MOMENT", help="what moment it is (that of the last line)")
     link_help = "how long a link may last now, from where it began"
-    parser.add_argument("--link", nargs=3, action=Numbers, metavar=("END", "LOW", "HIGH"), help=link_help)
+    parser.add_argument("--link", nargs=3, action=Interval, metavar=("END", "LOW", "HIGH"), help=link_help)
     came_help = "a point that came at another moment"
-    parser.add_argument("--came", nargs=2, action=Numbers, metavar=("POINT", "MOMENT"), help=came_help)
+    parser.add_argument("--came", nargs=2, action="append", default=[], metavar=("POINT", "MOMENT"), help=came_help)
     not_yet_help = "a point that has come by the lines, and is still to come"
     parser.add_argument("--not-yet", action="append", default=[], metavar="POINT", help=not_yet_help)
 
 
-class Numbers(argparse.Action):
-    """Notes the numbers after a name, by the name."""
+class Interval(argparse.Action):
+    """Notes the two numbers after a name, by the name."""
 
     def __call__(self, parser, namespace, values, option_string=None):
         name, *numbers = values
@@ -64,9 +74,18 @@ class Numbers(argparse.Action):
         setattr(namespace, self.dest, noted | {name: tuple(map(int, numbers))})
 
 
-def amendments_of(args):
-    came = {name: moment for name, (moment,) in (args.came or {}).items()}
-    return Amendments(args.now, args.link or {}, came, tuple(args.not_yet))
+def amendments_of(args, scale):
+    """What the words of a call tell, whose moments may be times of day."""
+    now = None if args.now is None else moment_of(args.now, scale)
+    came = {name: moment_of(word, scale) for name, word in args.came}
+    return Amendments(now, args.link or {}, came, tuple(args.not_yet))
+
+
+def moment_of(word, scale):
+    moment = scale.read(word)
+    if moment > LARGEST:
+        raise Fault(f"a moment is at most {LARGEST:,}, and not {word}")
+    return moment
 
 
 def run(args):
@@ -74,15 +93,24 @@ def run(args):
         raise Fault("the plan and the lines of the day cannot both be read from standard input")
     if args.out and any(is_same_file(args.out, path) for path in (args.plan, args.lines)):
         raise Fault(f"{args.out} is the plan or the lines of the day, which are never written: name another file by --out")
+    if args.out and Path(args.out).is_file() and not is_of_rest(text_of(args.out)):
+        raise Fault(f"{args.out} is there, and was not written by 'planner rest': name another file by --out")
+    scale = scale_of(args.clock)
     source, lines = load(args.plan, args.delay), lines_of(args)
+    if none := next((line for line in lines if line.split()[0] not in LINES), None):
+        why = "begins no line of a day, nor one of a session over its plan"
+        raise Fault(f"{called(args.lines)}: {quoted(none.split()[0])} {why}", Status.EVENT)
     source, execution, last = played(args.program, source, lines)
     execution.channel.talk.show()
     execution.close()
     try:
-        text = Rest(source, execution.moments(), last, amendments_of(args)).text(args.program)
+        rest = Rest(source, execution.moments(), last, amendments_of(args, scale), scale)
+        text = rest.text(args.program)
     except Unsaid as why:
         say(why)
         return Status.NOT_KEPT
+    for sentence in [*rest.changed(), *rest.missing(args.program, execution.lines)]:
+        say(sentence)
     return told(args, text)
 
 
@@ -91,8 +119,22 @@ def lines_of(args):
     lines = text_of(args.lines).split("\n")
     if args.vehicle is None:
         return kept(lines)
+    if (head := Head.of(lines[0])) and head.kind == Room.KIND:
+        return lines_of_room(lines, args.vehicle)
     mine = [line.split(maxsplit=1) for line in lines]
     return [words[1] for words in mine if words[:1] == [args.vehicle] and words[1:]]
+
+
+def lines_of_room(lines, name):
+    """The lines of a vehicle in the journal of a room, without those that were taken back."""
+    room = Room(None)
+    # (of the last line only the beginning may stand there)
+    room.remember(line for line in lines[:-1] if not line.startswith("#"))
+    if name not in room.vehicles:
+        raise Fault(f"the room has no vehicle '{name}'{meant(name, room.vehicles)}")
+    if len(room.vehicles[name].days) > 1:
+        raise Fault(f"{name} goes on by the plan of a rest, which only the room has: tell the room 'rest {name} ..'")
+    return room.vehicles[name].lines
 
 
 def played(program, source, lines):
@@ -113,7 +155,7 @@ def played(program, source, lines):
         return source, execution, execution.last or 0
     line, why = refused
     if line != events[-1] or not why.is_of_another_day:
-        raise Fault(f"'{line}' is refused; the program says: {why.refused}; {slip_of_event(line, why, execution)}", Status.EVENT)
+        raise Fault(f"'{line}' is refused; the program says: {why.said}; {slip_of_event(line, why, execution)}", Status.EVENT)
     return source, execution, int(line.split()[1])
 
 
@@ -123,7 +165,7 @@ def told(args, text):
     if answer.is_refused:
         raise Fault(f"the program does not take the plan of the rest: {answer.first}", Status.DEFECT)
     if args.out:
-        write_whole(args.out, text)
+        write_whole(args.out, Draft.of(Source(text)).written(args.out))
     if args.json:
         hand_on({"kept": answer.is_kept, "file": args.out, "text": text})
     elif not args.out:

@@ -17,7 +17,7 @@ first plan, before it is answered: whatever happens, the same call goes on where
              help, end
 
 The table tells of each vehicle the last moment told, the next one that is due, and which links may end from when until when. A vehicle is
-late if such a moment is before that of the room, which is the latest told of any.
+late if such a moment is before that of the room, which is the latest told of any and not taken back, or a later one that 'now' says.
 """
 
 import shlex
@@ -25,14 +25,16 @@ import time
 from pathlib import Path
 
 from planner.commands import rest as rest_command
-from planner.drawing.scale import CLOCK_HELP, scale_of
-from planner.execution import EVENTS, in_numbers, slip_of_event
+from planner.drawing.scale import scale_of
+from planner.execution import EVENTS, as_typed, in_numbers, slip_of_event
 from planner.faults import Fault, Status, say, told_by_system
 from planner.feeds import Feeds
 from planner.front import Parser
 from planner.journal import Head, Journal, beside
 from planner.kept import write_whole
+from planner.mended import Refused
 from planner.offered import looked_at, offered
+from planner.options import add_clock
 from planner.output import hand_on, tell
 from planner.page import page
 from planner.plan import STANDARD_INPUT
@@ -61,7 +63,7 @@ def add_words(parser):
     parser.add_argument("--lines", metavar="FILE", help=lines_help)
     sources_help = "a file, a pipe or a device with lines"
     parser.add_argument("--from", dest="sources", action="append", default=[], metavar="SOURCE", help=sources_help)
-    parser.add_argument("--clock", metavar="TIME", help=CLOCK_HELP)
+    add_clock(parser)
     page_help = "keep a page for a screen on the wall in this folder, index.html, which loads itself anew"
     parser.add_argument("--page", metavar="DIR", help=page_help)
     parser.add_argument("--all-or-none", action="store_true", help="begin only if each plan can be kept")
@@ -96,7 +98,8 @@ class RoomDesk:
     def __init__(self, args):
         self.args, self.room = args, Room(args.program)
         self.path, self.scale = path_of(args), scale_of(args.clock)
-        self.statuses = {Status.KEPT}
+        # The statuses of the plans that are left out, by their names, and the lines that are refused.
+        self.left_out, self.refused = {}, Refused(self.names)
         # The word of the call that brought each plan, by the plan's name.
         self.brought = {}
         # A line whose vehicle nobody knows, as it was most likely meant: it waits for a yes.
@@ -106,7 +109,7 @@ class RoomDesk:
 
     def begin(self):
         """Has the room stand as it stood; looks at the plans of the call, and has those go that can be kept."""
-        head = Head("room", None, self.args.delay)
+        head = Head(Room.KIND, None, self.args.delay)
         self.journal = Journal(self.path, head)
         try:
             if self.journal.head != head:
@@ -130,10 +133,10 @@ class RoomDesk:
             found = self.looked_at(plan, {*self.room.vehicles, *fit})
             if not found.why:
                 fit[found.name] = found.source.text
-        if self.args.all_or_none and len(self.statuses) > 1:
-            raise Fault(f"none is begun, since not each plan can be: {', '.join(self.room.left_out)}", max(self.statuses))
+        if self.args.all_or_none and self.left_out:
+            raise Fault(f"none is begun, since not each plan can be: {', '.join(self.room.left_out)}", self.status())
         if not fit and not self.room.vehicles:
-            raise Fault("there is no plan that can be executed", max(self.statuses))
+            raise Fault("there is no plan that can be executed", self.status())
         for name, text in fit.items():
             self.journal.keep(plan_entry(name, text))
             self.room.add(name, text)
@@ -163,10 +166,19 @@ class RoomDesk:
             say(f"{found.name} is left out: {found.why}")
             if found.name not in taken:
                 self.room.left_out[found.name] = found.reason
-            self.statuses.add(found.status)
+            self.left_out[found.name] = found.status
         else:
             self.room.left_out.pop(found.name, None)
+            self.left_out.pop(found.name, None)
         return found
+
+    def names(self):
+        """The names of vehicles and of their points, which are no slips of each other."""
+        return [*self.room.vehicles, *(point for it in self.room.vehicles.values() for point in it.execution.plan.points)]
+
+    def status(self):
+        """The worst of the plans that were left out and not mended since, and of the lines that were refused and not mended."""
+        return max([Status.EVENT if self.refused else Status.KEPT, *self.left_out.values()])
 
     def take(self, line):
         words = line.split()
@@ -175,7 +187,7 @@ class RoomDesk:
             case []:
                 self.put_table()
             case [first, *_] if first.startswith("#"):
-                self.keep(line, line)
+                self.keep(line, line, is_change=False)
             case [yes] if asked and yes.lower() in ("y", "yes"):
                 self.take(asked)
             case [name] if name in self.room.vehicles:
@@ -183,7 +195,7 @@ class RoomDesk:
             case [name, word] if name in self.room.vehicles and word.lower() == "undo":
                 self.undo(name)
             case [name, word, *rest] if name in self.room.vehicles:
-                self.event(name, " ".join(in_numbers([word.lower(), *rest], self.scale)))
+                self.event(name, " ".join([word.lower(), *rest]))
             case [name, word, *_] if word.lower() in EVENTS:
                 self.ask_again(line, name)
             case [word, *rest]:
@@ -193,6 +205,7 @@ class RoomDesk:
         """Takes a line that is no vehicle's."""
         match word, rest:
             case "table", []:
+                self.refused.take(line, is_question=True)
                 self.put_table()
             case "help", []:
                 tell(__doc__.split("\n\n", 2)[2].rstrip())
@@ -223,18 +236,19 @@ class RoomDesk:
         how = (f"; was {which} meant?" if which else "; type it again") + (" 'yes' sends that" if self.asked else "")
         self.refuse(line, f"there is no vehicle '{name}', and nothing is sent{how}")
 
-    def event(self, name, line):
-        """Tells a line of a vehicle."""
+    def event(self, name, typed):
+        """Tells a line of a vehicle, as it was typed, in the moments of its plan."""
+        line = " ".join(in_numbers(typed.split(), self.scale))
         execution = self.room.vehicles[name].execution
         if execution.is_complete:
-            self.refuse(f"{name} {line}", f"its day is over; 'undo {name}' takes its last line back")
+            self.refuse(f"{name} {typed}", f"its day is over; 'undo {name}' takes its last line back")
             return
         told = self.room.take(name, line)
         if told.refused:
             slip = slip_of_event(line, told, execution, self.scale)
-            why = f"the program says: {told.refused}" + (f"; {slip}" if slip else "")
-            self.refuse(f"{name} {line}", why + self.what_then(name, line, told))
-        elif self.keep(f"{name} {line}", f"{name} {line}"):
+            why = f"the program says: {told.said}" + (f"; {slip}" if slip else "")
+            self.refuse(f"{name} {typed}", why + self.what_then(name, typed, told))
+        elif self.keep(f"{name} {typed}", f"{name} {line}"):
             self.answer(name, line, told.acts)
         else:
             self.room.forget_last(name)
@@ -249,9 +263,9 @@ class RoomDesk:
     def undo(self, name):
         if not self.room.vehicles[name].can_take_back():
             self.refuse(f"undo {name}", "there is no line to take back")
-        elif self.keep(f"undo {name}", marked(Mark.TAKEN_BACK, name)):
+        elif self.keep(f"undo {name}", marked(Mark.TAKEN_BACK, name), is_change=False):
             taken = self.room.forget_last(name)
-            self.answer(name, "undo", [], f"taken back: {taken}")
+            self.answer(name, "undo", [], f"taken back: {as_typed(taken, self.scale)}")
 
     def set_now(self, line, word):
         try:
@@ -259,8 +273,10 @@ class RoomDesk:
         except Fault as why:
             self.refuse(line, str(why))
             return
-        if self.keep(line, marked(Mark.NOW, str(moment))):
-            self.room.now = moment
+        if moment < self.room.told:
+            self.refuse(line, f"{self.scale.text(self.room.told)} was told already, and that is later")
+        elif self.keep(line, marked(Mark.NOW, str(moment))):
+            self.room.said = moment
             self.put_table()
 
     def add(self, line):
@@ -275,6 +291,8 @@ class RoomDesk:
     def add_one(self, line, plan):
         if plan.why:
             self.is_page_old = True
+            if self.args.json:
+                hand_on({"line": line, "taken": False, "why": f"{plan.name} is left out: {plan.why}"})
         elif self.keep(line, plan_entry(plan.name, plan.source.text)):
             self.room.add(plan.name, plan.source.text)
             self.room.start()
@@ -287,31 +305,33 @@ class RoomDesk:
         vehicle = self.room.vehicles[name]
         before = vehicle.execution.moments()
         try:
-            told = rest_command.amendments_of(parser.parse_args(shlex.split(line)[2:]))
-            rest = Rest(vehicle.execution.source, before, vehicle.execution.last or 0, told)
+            told = rest_command.amendments_of(parser.parse_args(shlex.split(line)[2:]), self.scale)
+            rest = Rest(vehicle.execution.source, before, vehicle.execution.last or 0, told, self.scale)
             text = rest.text(self.args.program)
         except (Fault, ValueError) as why:
             self.refuse(line, str(why).split("\n")[0])
             return
+        said = [*rest.changed(), *rest.missing(self.args.program, vehicle.lines)]
         if not self.args.program.call(["check"], Source(text)).is_kept:
             more = "'planner rest' writes its plan, and 'planner repair' finds what can be done"
-            self.refuse(line, f"the program says that what is left cannot be kept; {more}")
+            self.refuse(line, "; ".join(["the program says that what is left cannot be kept", *said, more]))
         else:
-            self.go_on(line, name, text, f"at {rest.now}", before)
+            self.go_on(line, name, text, f"at {rest.now}", before, said)
 
-    def go_on(self, line, name, text, now, before):
-        """Has a vehicle go on by a plan of the rest, and tells it what moment it is, to which it answers what came before once more."""
+    def go_on(self, line, name, text, now, before, said):
+        """Has a vehicle go on by a plan of the rest, and tells it what moment it is, to which it answers what came before once more. Tells
+        also what there is to be said of the rest."""
         self.room.go_on(name, text)
         told = self.room.take(name, now)
         if told.refused:
             self.room.forget_last(name)
-            self.refuse(line, f"the program says: {told.refused} (to {now})")
+            self.refuse(line, f"the program says: {told.said} (to {now})")
         elif self.keep(line, plan_entry(name, text), f"{name} {now}"):
-            self.answer(name, now, [(moment, point) for moment, point in told.acts if point not in before])
+            self.answer(name, now, [(moment, point) for moment, point in told.acts if point not in before], "; ".join(said))
         else:
             self.room.forget_last(name)
 
-    def keep(self, told, *lines):
+    def keep(self, told, *lines, is_change=True):
         """Keeps lines in the journal, for one that was told; whether they are on the disk."""
         self.is_page_old = True
         self.since_table += 1
@@ -320,6 +340,7 @@ class RoomDesk:
         except OSError as why:
             self.refuse(told, f"it could not be kept, {told_by_system(why)}; all stands as before")
             return False
+        self.refused.take(told, is_question=not is_change)
         return True
 
     def answer(self, name, line, acts, note=""):
@@ -327,18 +348,18 @@ class RoomDesk:
         execution = self.room.vehicles[name].execution
         if self.args.json:
             acts = [{"moment": moment, "point": point} for moment, point in acts]
-            said = {"vehicle": name, "line": line, "taken": True, "acts": acts}
+            said = {"vehicle": name, "line": line, "taken": True, "note": note, "acts": acts}
             hand_on({**said, "due": execution.told.due, "complete": execution.is_complete})
             return
         for moment, point in acts:
             tell(f"{name} at {self.scale.text(moment)}: {point}")
         due = "nothing is due" if execution.told.due is None else f"next at {self.scale.text(execution.told.due)}"
         due = "its day is over" if execution.is_complete else due
-        may = coming(self.room.row(self.room.vehicles[name]), self.scale) if is_terminal() else ""
+        may = coming(self.room.row(self.room.vehicles[name], self.room.now), self.scale) if is_terminal() else ""
         tell(f"{name}: " + "; ".join(filter(None, [note, due, may and f"may still come: {may}"])))
 
     def refuse(self, line, why):
-        self.statuses.add(Status.EVENT)
+        self.refused.refuse(line)
         if self.args.json:
             hand_on({"line": line, "taken": False, "why": why})
         else:
@@ -372,7 +393,7 @@ class RoomDesk:
         self.put_page(is_last=True)
         self.room.close()
         self.journal.close()
-        return Status.KEPT if is_terminal() else max(self.statuses)
+        return Status.KEPT if is_terminal() else self.status()
 
 
 def described(row):

@@ -6,7 +6,8 @@ from planner.drawing.svg import COLOURS, Picture
 
 PAGE = """:root {{ color-scheme: light dark; }}
 body {{ font-family: system-ui, sans-serif; margin: 1.5rem; background: {ground[0]}; color: {ink[0]}; }}
-svg {{ max-width: 100%; height: auto; }}
+.picture {{ overflow-x: auto; }}
+svg {{ max-width: 100%; min-width: {least}px; height: auto; }}
 table {{ border-collapse: collapse; margin: 1rem 0; font-variant-numeric: tabular-nums; }}
 th, td {{ border-bottom: 1px solid {grid[0]}; padding: 0.2rem 0.8rem; text-align: right; }}
 th:first-child {{ text-align: left; }}
@@ -17,7 +18,9 @@ body {{ background: {ground[1]}; color: {ink[1]}; }}
 th, td {{ border-color: {grid[1]}; }}
 pre {{ background: {stripe[1]}; }}
 }}
-@media print {{ body {{ margin: 0; }} }}"""
+@media print {{ body {{ margin: 0; }} svg {{ min-width: 0; }} }}"""
+# On a narrow screen a picture is drawn so small at least, and can be moved: its letters stay legible.
+LEAST = 0.7
 
 
 def table(chart):
@@ -38,12 +41,14 @@ def folded(summary, text):
 
 def lines(chart, plan_text, calls):
     """The lines of the page."""
-    title = escape(chart.title or "days")
+    title, picture = escape(chart.title or "days"), Picture(chart)
     yield '<!doctype html>\n<html lang="en"><head><meta charset="utf-8">'
     yield '<meta name="viewport" content="width=device-width, initial-scale=1">'
     yield f"<title>{title}</title>"
-    yield f"<style>\n{PAGE.format(**COLOURS)}\n</style></head><body>"
-    yield from Picture(chart).lines()
+    yield f"<style>\n{PAGE.format(**COLOURS, least=int(picture.width * LEAST))}\n</style></head><body>"
+    yield '<div class="picture">'
+    yield from picture.lines()
+    yield "</div>"
     yield "<details open><summary>the moments as a table</summary>"
     yield from table(chart)
     yield "</details>"

@@ -12,9 +12,6 @@ STEPS_OF_AN_HOUR = (1, 2, 5, 10, 15, 30)
 HOURS = (1, 2, 3, 6, 12)
 
 
-CLOCK_HELP = "the time at moment 0: 7:30 for moments of a minute, 7:30:00 of a second"
-
-
 def scale_of(clock):
     """How moments are written by the word of a call: as times of day if it tells the one at moment 0."""
     return Numbers() if clock is None else Clock.of(clock)
@@ -51,7 +48,7 @@ class Clock:
         """The clock that shows this time at moment 0: of minutes, or of seconds where the time has seconds."""
         found = TIME.fullmatch(word)
         if not found or int(found[1]) > 23:
-            raise Fault(f"'{word}' is no time of day: write 7:30 where a moment is a minute, 7:30:00 where it is a second")
+            raise Fault(f"'{word}' is no time of day: write 7:30 if a moment is a minute, 7:30:00 if it is a second")
         hours, minutes = int(found[1]), int(found[2])
         return cls(hours * 60 + minutes, 60) if found[3] is None else cls((hours * 60 + minutes) * 60 + int(found[3]), 3600)
 

@@ -1,24 +1,28 @@
 """Verdicts, refutations in sentences, deadlines, fixed schedules, and many plans at once."""
 
 import json
+import os
 import random
 import re
+import subprocess
 import sys
 import unittest
 from pathlib import Path
 
 from planner.certificate import Numbers, Refutation
-from planner.faults import Status
-from planner.plan import Plan, load
+from planner.faults import Fault, Status
+from planner.plan import Plan, limited, load
+from planner.tests.children import run
 from planner.tests.support import EXAMPLES, ROOT, Case, planner, program, repeated, shown_calls
 from planner.why import Telling
 
 sys.path.insert(0, str(ROOT / "tools"))
-from drawn import random_plan  # noqa: E402 (the path comes first)
+from inputs.random_plans import random_plan  # noqa: E402 (the path comes first)
 
 CLAIM = re.compile(r"(\S+) must (?:come|be seen) (?:at (least|most) (\d+) after|no sooner than) (\S+?)(?: is seen)?[,:.]")
 ROVER = EXAMPLES / "rover" / "plan.stnu"
 VARIANT = EXAMPLES / "rover" / "variant.stnu"
+ENDLESS = "/dev/zero has more than 50 characters, and is read no further"
 
 
 def refuted_plans(case, count, seed):
@@ -61,13 +65,82 @@ class Check(Case):
             done = planner("check", plan, "--judge", "answer", "--show-calls")
             self.assertEqual(done.status, status)
             self.assertEqual(repeated(done.err), (0, f"accepted {answer.first}\n"))
-        done = planner("check", EXAMPLES / "spacecraft" / "plan.stnu", "--judge", EXAMPLES / "spacecraft" / "mistaken.cert")
-        self.assertEqual((done.status, done.out), (Status.PLAN, ""))
-        self.assertIn("refused 6 too-low", done.err)
-        for text in ("", "controllable\n", "certificate 1\ntable\n", "nonsense\n"):
-            self.write("none", text)
-            done = planner("check", ROVER, "--judge", "none")
-            self.assertEqual((done.status, done.out), (Status.PLAN, ""), text)
+
+    def test_a_certificate_that_is_refused_is_told_with_its_line_and_the_reason(self):
+        certificate = EXAMPLES / "spacecraft" / "mistaken.cert"
+        done = planner("check", EXAMPLES / "spacecraft" / "plan.stnu", "--judge", certificate, "--show-calls")
+        said, line = next((it, place) for place, it in enumerate(certificate.read_text().split("\n"), 1) if it.startswith("drop 5"))
+        wanted = "the certificate shows nothing; the program says: refused 6 too-low 1 2"
+        self.assertEqual((done.status, done.lines[0]), (Status.NOT_KEPT, wanted))
+        self.assertIn(f"{certificate}:{line}: '{said}': it states 1, and its rule gives no less than 2", done.lines[1])
+        self.assertEqual(repeated(done.err), (1, "refused 6 too-low 1 2\n"))
+        value = json.loads(planner("check", ROVER, "--judge", EXAMPLES / "shift" / "refutation.cert", "--json").out)
+        self.assertEqual(value["answer"], "refused 1 unknown-item")
+        self.assertIn("is this a certificate of another plan", value["why"])
+
+    def test_a_certificate_with_another_delay_says_which_delay_the_plan_has(self):
+        for plan, made, read in ((ROVER, 12, 0), (ROVER, 0, 12), (ROVER, 16, 0)):
+            planner("check", plan, "--proof", "certificate", "--delay", made)
+            done = planner("check", plan, "--judge", "certificate", "--delay", read)
+            self.assertEqual(done.status, Status.NOT_KEPT)
+            self.assertIn(f"The plan is read here with a delay of {read}: was the certificate made with another?", done.out)
+
+    def test_what_is_no_certificate_is_told_so(self):
+        planner("check", VARIANT, "--proof", "certificate")
+        strong = "\n".join(program().call(["strong"], load(str(ROVER))).lines[1:]) + "\n"
+        others = {
+            "": "there is no certificate in it",
+            "controllable\n": "there is no certificate in it",
+            "certificate 1\ntable\n": "it ends without a line 'end'",
+            "nonsense\n": "none:1: 'nonsense': this is no line of a certificate",
+            "certificate 1\nrefutation\n\nnonsense 3\nend\n": "none:4: 'nonsense 3': this is no line",
+            ROVER.read_text(): "this is a plan, and no certificate: 'planner check PLAN --proof FILE' writes one",
+            (EXAMPLES / "rover" / "plan.json").read_text(): "this is a plan, and no certificate",
+            strong: "this is a strong certificate, which 'stnu judge --strong' judges",
+        }
+        for text, wanted in others.items():
+            with self.subTest(text[:20]):
+                self.write("none", text)
+                done = planner("check", ROVER, "--judge", "none")
+                self.assertEqual((done.status, done.out), (Status.PLAN, ""))
+                self.assertIn(wanted, done.err)
+        done = planner("check", "--judge", "-", given=ROVER.read_text())
+        self.assertEqual((done.status, done.err.count("\n")), (Status.WORDS, 1))
+
+    def test_no_file_that_is_read_is_written_over(self):
+        """A plan in the place of the file for the certificate, or for a picture of it, stays what it is."""
+        text = ROVER.read_text()
+        plan = self.write("mine.stnu", text)
+        (self.folder / "link.stnu").symlink_to(plan)
+        for words in (["check", "--proof"], ["draw", "--svg"], ["draw", "--html"], ["draw", "--dot"]):
+            for name in ("mine.stnu", "./link.stnu"):
+                done = planner(*words, name, "mine.stnu")
+                self.assertEqual((done.status, done.out, plan.read_text()), (Status.WORDS, "", text), words)
+                self.assertIn(f"{name} is read by this call, and is never written: name another file", done.err)
+
+    def test_no_other_plan_is_written_over(self):
+        """As by a pattern of the shell that stands for two plans."""
+        other = self.write("a.stnu", "my other plan")
+        for words in (["check", "--proof"], ["draw", "--svg"], ["draw", "--html"], ["draw", "--dot"]):
+            done = planner(*words, "a.stnu", ROVER)
+            self.assertEqual((done.status, done.out, other.read_text()), (Status.WORDS, "", "my other plan"))
+            self.assertIn("a.stnu is there, and is a plan by its name, which is never written over: name another file", done.err)
+
+    def test_a_link_and_a_device_stay_what_they_are(self):
+        aim, link = self.write("aim.cert", "old"), self.folder / "link.cert"
+        link.symlink_to(aim)
+        os.mkfifo("pipe")
+        reader = subprocess.Popen(["cat", "pipe"], stdout=subprocess.PIPE, text=True)
+        for path in (link, "pipe"):
+            self.assertEqual(planner("check", VARIANT, "--proof", path).status, Status.NOT_KEPT)
+        self.assertEqual(reader.communicate(timeout=60)[0], aim.read_text())
+        self.assertEqual(run("check", VARIANT, "--proof", "/dev/stdout").stdout, f"{aim.read_text()}the plan cannot be kept\n")
+        self.assertTrue(link.is_symlink() and Path("pipe").is_fifo() and aim.read_text().startswith("certificate 1\n"))
+
+    def test_a_file_without_an_end_is_not_read_for_ever(self):
+        with open("/dev/zero", encoding="utf-8") as endless, self.assertRaises(Fault) as refused:
+            limited(endless, "/dev/zero", 50)
+        self.assertEqual((refused.exception.status, str(refused.exception)), (Status.LIMIT, ENDLESS))
 
     def test_a_certificate_that_cannot_be_written(self):
         done = planner("check", ROVER, "--proof", "nowhere/certificate")
@@ -91,6 +164,24 @@ class Why(Case):
         ):
             self.assertIn(sentence, text)
 
+    def test_what_is_wanting_is_tied_to_the_repair(self):
+        """At the airport 1 is wanting by the refutation, and the slot must be 6 longer."""
+        plan = Path(__file__).parent / "plans" / "airport.stnu"
+        done = planner("why", plan)
+        self.assertIn(": 1 is wanting.", done.out)
+        self.assertIn("slot.max 60 -> 66", planner("repair", plan).out)
+        self.assertIn(f"'planner repair {plan}' finds how far each number must go, be it more or less\n", done.err)
+
+    def test_what_cannot_be_kept_together_is_told_by_the_lines_of_the_plan(self):
+        """Of a line `between` also which of its two bounds is meant; of a document its item as such a line."""
+        text = "stnu 2\npoint a\npoint b\nlink a 5 9 b\n# so\nbetween soon a 0 8 b\nend\n"
+        item = {"name": "soon", "from": "a", "low": 0, "high": 8, "to": "b"}
+        link = {"from": "a", "low": 5, "high": 9, "to": "b"}
+        document = json.dumps({"stnu": 2, "points": ["a", "b"], "between": [item], "links": [link]})
+        for given, line in ((text, 6), (document, 1)):
+            self.assertIn(f"  standard input:{line}  between soon a 0 8 b  (soon.max)\n", planner("why", given=given).out)
+        self.assertIn("(line 6: between soon a 0 8 b)", " ".join(planner("fixed", given=text).out.split()))
+
     def test_a_plan_that_can_be_kept_and_one_that_is_none(self):
         self.assertEqual((planner("why", ROVER).status, planner("why", ROVER).out), (Status.KEPT, "the plan can be kept\n"))
         self.assertEqual(planner("why", given="stnu 1\n").status, Status.PLAN)
@@ -106,11 +197,23 @@ class Why(Case):
             # Bounds and links are told by their names where they are used.
             derived = {step.number for step in refutation.steps if step.premises}
             self.assertLessEqual(derived, told, plan.source.text)
+            # Each sentence bears another line.
+            self.assertEqual(len({it.line for it in sentences}), len(sentences), plan.source.text)
             text = " ".join(it.text for it in sentences)
             for name in (*refutation.bounds, *refutation.links):
                 self.assertIn(name, text)
             for it in sentences:
                 self.assert_claim(refutation, it)
+
+    def test_the_sentence_of_a_walk_bears_the_line_of_the_walk(self):
+        text = "stnu 1\npoint a\npoint b\npoint c\nbound ab a b 5\nbound bc b c 5\nbound late c a -11\nend\n"
+        self.write("plan.stnu", text)
+        certificate = ["certificate 1", "refutation", "bound ab a b 5", "bound bc b c 5", "bound late c a -11"]
+        certificate += ["walk 1", "walk 2", "walk 3", "end"]
+        plan = Plan.of(load("plan.stnu"))
+        (sentence,) = Telling(Refutation(plan, certificate)).sentences()
+        self.assertEqual((sentence.line, sentence.within), (6, (4, 5)))
+        self.assertTrue(sentence.text.endswith("1 is wanting."))
 
     def assert_claim(self, refutation, sentence):
         """What a sentence says must be is what its line of the certificate states."""
@@ -118,6 +221,7 @@ class Why(Case):
         if found is None:
             self.assertRegex(sentence.text, r"wanting\.$|avoids that clash|^\S+ must (come|be seen) at most \d+ after itself")
             return
+        self.assertLessEqual(sentence.line, len(refutation.steps), sentence.text)
         point, way, number, other = found.groups()
         step = refutation.step(sentence.line)
         said = (other, point, int(number)) if way == "most" else (point, other, -int(number or 0))
@@ -171,6 +275,14 @@ class Deadline(Case):
         for words in ([], [ROVER], ["a", "b", "c", "d"], [ROVER, "sunrise", "images", "--seen"], [ROVER, "--seen", "--bound", "warm"]):
             self.assertEqual(planner("deadline", *words).status, Status.WORDS)
 
+    def test_a_missing_point_is_told_as_such(self):
+        self.write("plan.stnu", ROVER.read_text())
+        for words in ([ROVER, "sunrise"], ["plan.stnu", "sunrise"], ["-", "sunrise"], ["not/there", "sunrise"], ["gone.json", "sunrise"]):
+            done = planner("deadline", *words)
+            self.assertEqual((done.status, done.out), (Status.WORDS, ""))
+            self.assertIn(f"TO is missing: wanted are a plan, FROM and TO, and '{words[0]}' is the plan, 'sunrise' FROM", done.err)
+        self.assertIn("FROM and TO are missing", planner("deadline", "plan.stnu").err)
+
     def test_the_least_number_of_each_bound(self):
         for folder in ("rover", "shift", "laboratory", "spacecraft"):
             plan = EXAMPLES / folder / "plan.stnu"
@@ -192,6 +304,15 @@ class Deadline(Case):
         self.assertEqual(done.out, "completions may be seen up to 15 late (in the plan 0)\n")
         self.assertEqual([repeated(call)[0] for call in shown_calls(done.err)], [0, 1])
         self.assertEqual(planner("deadline", VARIANT, "--seen").status, Status.NOT_KEPT)
+        done = planner("deadline", "--seen", given="stnu 1\npoint a\npoint b\nlink a 1 2 b\nend\n")
+        self.assertEqual(done.out, "completions may be seen up to 1000000 late, the greatest delay that a plan may have (in the plan 0)\n")
+
+    def test_a_link_that_is_none_by_the_point_in_which_it_begins(self):
+        done = planner("deadline", ROVER, "--link", "leave")
+        self.assertEqual((done.status, done.out), (Status.WORDS, ""))
+        self.assertIn("the plan has no link 'leave'; a link goes by the point in which it ends: 'arrive' from 'leave'\n", done.err)
+        self.assertIn("no link 'arive'; was 'arrive' meant?", planner("deadline", ROVER, "--link", "arive").err)
+        self.assertIn("no bound 'warmm'; was 'warm' meant?", planner("deadline", ROVER, "--bound", "warmm").err)
 
 
 class Fixed(Case):
@@ -200,6 +321,8 @@ class Fixed(Case):
         self.assertEqual(done.status, Status.KEPT)
         moments = [line.split() for line in done.lines[1:]]
         self.assertEqual(moments, [["0", "begin"], ["15", "visit-1"], ["70", "visit-2"], ["120", "report"]])
+        done = planner("fixed", EXAMPLES / "shift" / "plan.stnu", "--clock", "22:30")
+        self.assertEqual(done.lines[1:], ["   22:30  begin", "   22:45  visit-1", "   23:40  visit-2", "  0:30+1  report"])
 
     def test_none(self):
         done = planner("fixed", ROVER, "--show-calls")

@@ -49,6 +49,16 @@ the day is over: all has come"""
         self.assertIn("arrive cannot be seen before 7:40", done.err)
         self.assertTrue((self.folder / "today.day").read_text().endswith("at 0\nat 60\nat 100 arrive\n"))
 
+    def test_with_a_clock_a_refused_line_is_told_as_it_was_typed(self):
+        done = self.day("at 6:00", "at 7:00", "at 6:30", "at 9:00", "at 7:20", "undo", words=["--clock", "6:00"])
+        self.assertIn("'at 6:30' is not taken: the program says: not-later 60; 7:00 was told already", done.err)
+        self.assertIn("taken back: at 7:20", done.lines)
+        self.assertIn("'at 9:00' is not taken", done.err)
+        call = done.err.split("is a new plan: ")[1].split("\n")[0]
+        self.assertTrue(call.endswith("--now 9:00 --link arrive LOW HIGH --clock 6:00"), call)
+        words = call.replace("LOW HIGH", "115 140").split()[1:]
+        self.assertIn("which began at 7:00, may last 115 to 140 now", quickly(*words, "--not-yet", "warm-up").err)
+
     def test_it_goes_on_where_it_was(self):
         self.day("at 0", "at 60")
         done = self.day("at 90")
@@ -71,7 +81,7 @@ the day is over: all has come"""
     def test_a_day_overdue_says_in_one_line_what_to_do_then(self):
         done = self.day("at 0", "at 60", "at 160")
         line = done.err.split("\n")[0]
-        wanted = "planner: 'at 160' is not taken: the program says: error event 34 overdue arrive 150"
+        wanted = "planner: 'at 160' is not taken: the program says: overdue arrive 150"
         wanted += "; arrive was to be seen by 150 at the latest"
         then = f"planner rest {ROVER} today.day --now 160 --link arrive LOW HIGH"
         self.assertEqual(line, f"{wanted}. If the day went so, what is left of it is a new plan: {then}")
@@ -90,7 +100,7 @@ the day is over: all has come"""
             "arrive": "'help' lists the lines",
             "done": "arrive is still to come: tell it first",
             "verdict": "begins no line here",
-            "at 4000000000001": "error limit",
+            "at 4000000000001": "the greatest moment is 4,000,000,000,000",
         }
         self.day("at 0", "at 60")
         for line, wanted in slips.items():
@@ -99,6 +109,23 @@ the day is over: all has come"""
                 self.assertEqual((done.status, done.lines), (Status.EVENT, AT_60 * 2))
                 self.assertIn(wanted, done.err)
                 self.assertEqual(done.err.count("is not taken"), 1)
+
+    def test_a_slip_that_is_mended_makes_no_status_and_no_line_is_told_by_a_number_that_nobody_sees(self):
+        mended = [
+            ("at 100 arive", "status", "at 100 arrive"),
+            ("at 100 images", "at 100 arrive"),
+            ("att 90", "at 90"),
+            ("at 9:30", "at 90"),
+            ("at 70 arrive", "at 100 arrive"),
+            ("done", "at 127 arrive", "at 240", "done"),
+        ]
+        for number, lines in enumerate(mended):
+            with self.subTest(lines):
+                words = ["--lines", f"{number}.day"]
+                done = quickly("day", ROVER, *words, given="\n".join(["at 0", "at 60", *lines]))
+                self.assertEqual((done.status, done.err.count("is not taken")), (0, 1), done.err)
+                self.assertNotRegex(done.err, r"error \w+ \d+")
+        self.assertEqual(self.day("at 0", "at 60", "at 100 arive", "at 110").status, Status.EVENT)
 
     def test_a_plan_that_cannot_be_kept_is_not_executed(self):
         done = self.day("at 0", plan=EXAMPLES / "rover" / "variant.stnu")

@@ -1,6 +1,9 @@
 """Days and their pictures: each moment is one that the program gave, and what else is drawn follows from the plan."""
 
 import json
+import re
+import shutil
+import subprocess
 import unittest
 import xml.etree.ElementTree as ElementTree
 from html.parser import HTMLParser
@@ -43,6 +46,32 @@ def plan_of(path, delay=None):
     return Plan.of(load(str(path), delay))
 
 
+class Graphs(Case):
+    """A plan as a graph, be it one that can be kept or not."""
+
+    def test_each_point_link_and_bound_is_in_it_with_its_number(self):
+        self.write("airport.stnu", AIRPORT)
+        for path in (ROVER, EXAMPLES / "rover" / "variant.stnu", EXAMPLES / "shift" / "late.json", "airport.stnu"):
+            with self.subTest(path):
+                plan, done = Plan.of(load(str(path))), planner("draw", path, "--dot", "-")
+                lines = [line.strip() for line in done.lines]
+                self.assertEqual((done.status, lines[0][-1], lines[-1]), (Status.KEPT, "{", "}"))
+                self.assertLessEqual({f'"{name}"' for name in plan.points}, {line.rstrip(";").partition(" [")[0] for line in lines})
+                self.assertEqual(sum(" -> " in line for line in lines), len(plan.links) + len({it.line for it in plan.bounds.values()}))
+                for link in plan.links.values():
+                    self.assertIn(f'"{link.start}" -> "{link.end}" [label="{link.low} to {link.high}", style=bold];', lines)
+        rover = planner("draw", ROVER, "--dot", "-").out
+        for arrow in ('"sunrise" -> "leave" [label="charged: at least 60"', '"arrive" -> "images" [label="at-the-rock: not before"'):
+            self.assertIn(arrow, rover)
+        self.assertIn('"warm-up" -> "images" [label="still-warm: at most 60"', rover)
+
+    @unittest.skipUnless(shutil.which("dot"), "there is no Graphviz")
+    def test_graphviz_takes_it(self):
+        planner("draw", ROVER, "--dot", "rover.dot", "--title", 'a "day" \\')
+        done = subprocess.run(["dot", "-Tplain", "rover.dot"], capture_output=True, text=True, check=False)
+        self.assertEqual((done.returncode, done.stderr), (0, ""))
+
+
 class Days(Case):
     def test_a_number_names_the_day_on_which_the_links_last_so(self):
         plan = plan_of(LABORATORY)
@@ -63,6 +92,17 @@ class Days(Case):
                     executed = daily.executed(program(), plan, durations, "a day", path)
                     played = daily.played(program(), plan, str(daily.number_of(plan, durations)), path)
                     self.assertEqual(executed.moments, played.moments)
+
+    def test_the_number_of_a_random_day_is_told_and_draws_it_again(self):
+        done = planner("draw", ROVER, "--random")
+        number = re.search(rf"drawn at random: day (\d+); 'planner draw {ROVER} (\d+)' draws it again\n", done.err)
+        self.assertEqual(number[1], number[2])
+        self.assertEqual(planner("draw", ROVER, number[1]).out, done.out)
+        # A day whose number is beyond those that `play` takes is known by its seed.
+        done = planner("draw", LARGE, "--random", "2", "--seed", "5", "--json")
+        again = re.findall(r"'planner draw \S+ (.*)' draws it again", done.err)
+        self.assertEqual(again, ["--random 1 --seed 5", "--random 2 --seed 5"])
+        self.assertEqual(planner("draw", LARGE, *again[1].split(), "--json").out, done.out)
 
     def test_random_days_are_spread_over_all_links(self):
         plan = plan_of(LARGE)
@@ -283,6 +323,9 @@ class Pictures(Case):
         self.assertNotIn("script", found.seen)
         self.assertFalse({"link", "img", "iframe"} & found.seen)
         self.assertIn("prefers-color-scheme: dark", done.out)
+        # On a narrow screen its letters stay legible: it is not made much smaller, and can be moved.
+        wide, least = (int(re.search(pattern, done.out).group(1)) for pattern in (r'<svg [^>]*width="(\d+)"', r"min-width: (\d+)px"))
+        self.assertTrue(0.6 * wide < least < wide)
         self.assertIn("bound doors off-block boarded -4", done.out)
         self.assertIn("stnu play longest", done.out)
 

@@ -65,7 +65,9 @@ class Edits(Case):
 
     def test_slips_are_told_in_one_line_each(self):
         slips = {
-            "verdcit": "was 'verdict' meant?",
+            "set between shift 0 90": "shift is a bound, and no line between: set bound shift MOST",
+            "set bound shift.max 90": "shift is a bound, and no line between: set bound shift MOST",
+            "drop between shift": "shift is a bound, and no line between: drop bound shift",
             "set bound shfit 5": "the plan has no 'shfit'; was 'shift' meant?",
             "add bound x begin cu 5": "the plan has no 'cu'; was 'cut' meant?",
             "add bound x begin cut": "3 words stand after 'add bound'; wanted: add bound NAME FROM TO MOST",
@@ -77,14 +79,47 @@ class Edits(Case):
             "set delay 5x": "'5x': no whole number in the place of N; wanted: set delay N",
             "set delay 1000001": "wanted: set delay N, of at most 1,000,000",
             "drop link begin": "no link ends in 'begin'",
+            "set link cut 5 9": "no link ends in 'cut'; a link goes by the point in which it ends: 'closed' from 'cut'",
+            "set bound shift": "1 word stands after 'set bound'; wanted: set bound NAME MOST",
             "undo": "there is no edit to take back",
-            "verdict now": "no words stand after 'verdict'",
         }
         for line, wanted in slips.items():
             with self.subTest(line):
                 done = self.edit(line, "verdict")
                 self.assertEqual((done.status, done.lines, done.err.count("\n")), (Status.EVENT, ["the plan can be kept"], 1))
                 self.assertIn(wanted, done.err)
+
+    def test_a_slip_that_is_mended_makes_no_status(self):
+        mended = [
+            ("verdcit", "verdict"),
+            ("verdict now", "verdict"),
+            ("set bound shfit 50", "verdict", "set bound shift 50"),
+            ("set bound early 20", "set bound early.max 20"),
+            ("set shift 50", "set bound shift 50"),
+            ("set bound shift 5x", "set bound shift 50"),
+            ("set link closed 70 60", "set link closed 60 70"),
+            ("add bound x begin cut", "add bound x begin cut 5"),
+            ("set bound shift 50", "set bound early.mx 5", "undo", "set bound early.max 5"),
+            ("drop point cut", "add point other", "drop link closed", "drop between early", "drop point cut"),
+        ]
+        lost = [
+            ("set bound shfit 50", "set bound early.max 50"),
+            ("verdcit", "plan"),
+        ]
+        for number, lines in enumerate([*mended, *lost]):
+            with self.subTest(lines):
+                done = self.edit(*lines, words=["--lines", f"{number}.edits", "--out", f"{number}.stnu"])
+                status = 0 if lines in mended else Status.EVENT
+                self.assertEqual((done.status, done.err.count("is not taken")), (status, 1), done.err)
+                self.assertNotRegex(done.err, r"error \w+ \d+")
+
+    def test_nothing_is_reported_of_the_delay(self):
+        done = self.edit("set bound shift 120", "report", "set delay 3", "report", "set bound shift 130", "report")
+        self.assertRegex(done.lines[1], r"^report \d+ \d+ \d+$")
+        self.assertEqual(done.lines[3], "nothing to report: 'set delay' has begun the session anew, so that all is derived again")
+        self.assertRegex(done.lines[5], r"^report \d+ \d+ \d+$")
+        # So too when the lines are played again.
+        self.assertIn("nothing to report", self.edit("undo", "report").lines[-1])
 
     def test_the_delay_is_set_with_edits_before_and_after_it(self):
         self.write("rover.stnu", (EXAMPLES / "rover" / "plan.stnu").read_text())
@@ -135,14 +170,44 @@ class Edits(Case):
         done = self.edit("set bound shift 40")
         self.assertEqual((done.status, self.written()), (Status.WRITE, "mine\n"))
         self.assertIn("was not written by planner as it stands, and is left alone", done.err)
+        done = self.edit("set bound shift 150", "write ward.edited.stnu", "go")
+        for line, how in (("write ward.edited.stnu", ""), ("go", " by --out")):
+            why = "ward.edited.stnu was not written by planner as it stands, and is left alone: name another file"
+            self.assertIn(f"'{line}' is not taken: {why}{how}\n", done.err)
         self.assertEqual(self.edit("write other.stnu").status, Status.WRITE)
-        self.assertIn("closed 40", (self.folder / "other.stnu").read_text())
+        self.assertIn("closed 150", (self.folder / "other.stnu").read_text())
+
+    def test_a_document_stays_one_with_its_between(self):
+        document = (EXAMPLES / "shift" / "late.json").read_text()
+        self.write("late.json", document)
+        edits = ["set between first-visit 0 99", "add between more begin 0 300 report", "add bound b begin report 200", "set delay 2"]
+        done = quickly("edit", "late.json", given="\n".join([*edits, "drop bound more.min", "write other.stnu"]))
+        self.assertEqual((done.status, done.lines), (0, ["ok"] * 5))
+        found, wanted = json.loads((self.folder / "late.edited.json").read_text()), json.loads(document)
+        wanted["between"][0] |= {"low": 0, "high": 99}
+        added = [{"name": name, "from": "begin", "to": "report", "most": most} for name, most in (("more.max", 300), ("b", 200))]
+        wanted |= {"delay": 2, "bounds": [*wanted["bounds"], *added]}
+        self.assertEqual(found, wanted)
+        self.assertEqual(quickly("check", "late.edited.json").out, quickly("check", "other.stnu").out)
+        self.assertIn("between first-visit begin 0 99 visit-1\n", (self.folder / "other.stnu").read_text())
+
+    def test_the_day_that_it_begins_goes_by_the_clock(self):
+        done = self.edit("go", "at 7:30", words=["--clock", "7:30"])
+        self.assertEqual((done.status, done.lines[0]), (0, "next: at 7:30"))
+        self.assertIn("closed may be seen from 8:30 until 9:00", done.lines[-1])
+        self.assertEqual(self.edit("verdict", words=["--clock", "half"]).status, Status.WORDS)
+
+    def test_a_document_goes_on_with_its_day(self):
+        self.write("late.json", (EXAMPLES / "shift" / "late.json").read_text())
+        done = quickly("edit", "late.json", given="go\nat 0\n")
+        self.assertEqual((done.status, done.lines[0]), (0, "next: at 0"))
+        self.assertTrue((self.folder / "late.edited.day").exists())
 
     def test_a_document_is_edited_as_a_text_with_its_between(self):
         document = (EXAMPLES / "shift" / "late.json").read_text()
         self.write("late.json", document)
         between = json.loads(document)["between"][0]
-        done = quickly("edit", "late.json", given=f"set between {between['name']} 0 99\n")
+        done = quickly("edit", "late.json", "--out", "late.edited.stnu", given=f"set between {between['name']} 0 99\n")
         self.assertEqual(done.status, 0)
         text = (self.folder / "late.edited.stnu").read_text()
         self.assertIn(f"between {between['name']} {between['from']} 0 99 {between['to']}\n", text)
@@ -152,7 +217,13 @@ class Edits(Case):
         done = self.edit("set bound shift 110", "deadline begin closed", "play longest", "strong", "deadline begin clsed")
         self.assertIn("deadline begin closed 90", done.lines)
         self.assertIn("time closed 90", done.lines)
-        self.assertIn("the program says: error plan", done.err)
+        self.assertIn("the program says: unknown-name; the plan has no 'clsed'; was 'closed' meant?", done.err)
+        slips = {
+            "play longst": "wanted: play shortest, play longest or play NUMBER; was 'longest' meant?",
+            "deadline begin": "wanted: deadline FROM TO",
+        }
+        for line, wanted in slips.items():
+            self.assertIn(wanted, self.edit(line).err)
 
     def test_the_calls_can_be_repeated(self):
         done = self.edit("set between early 5 20", "verdict", words=["--show-calls"])

@@ -1,5 +1,8 @@
 """The front: its words, its statuses, and that whatever goes wrong is one line."""
 
+import ast
+import contextlib
+import io
 import os
 import signal
 import subprocess
@@ -9,6 +12,7 @@ from planner.faults import Status
 from planner.front import parser_of
 from planner.plan import STANDARD_INPUT, load, source_of
 from planner.program import Session
+from planner.tests.children import Terminal
 from planner.tests.support import EXAMPLES, ROOT, Case, planner, program, repeated
 
 LAUNCHER = ROOT / "planner"
@@ -32,14 +36,39 @@ class Words(Case):
                 done = planner(*words)
                 self.assertEqual(done.status, Status.WORDS)
 
+    def test_an_option_that_is_none_names_the_nearest(self):
+        slips = {("check", "--deley", "3"): "--delay", ("draw", "--rnadom"): "--random", ("room", "x", "--all-or-non"): "--all-or-none"}
+        for words, near in slips.items():
+            self.assertIn(f"was '{near}' meant?", planner(*words).err)
+
     def test_a_file_that_is_not_there_or_a_folder_is_one_line(self):
         for path in ("nowhere.stnu", "."):
             done = planner("check", path)
             self.assertEqual((done.status, done.out, done.err.count("\n")), (Status.WORDS, "", 1))
 
+    def test_somebody_at_a_terminal_is_told_that_standard_input_is_read(self):
+        with Terminal("check") as terminal:
+            terminal.until("this is read from standard input, up to its end; a file is named in the call")
+
     def test_a_program_that_is_not_there_is_one_line(self):
         done = planner("check", ROVER, "--program", "./no-such-program")
         self.assertEqual((done.status, done.out, done.err.count("\n")), (Status.NO_PROGRAM, "", 1))
+
+
+class Versions(Case):
+    def test_what_is_started_by_hand_tells_an_older_python_what_is_wanted(self):
+        """Each of these files is one that Python 3.8 can read, and asks for the version before it reads others."""
+        for path in (LAUNCHER, ROOT / "tools" / "install", *(EXAMPLES / f"{name}.py" for name in ("drive", "spoil", "printed"))):
+            with self.subTest(path):
+                text = path.read_text()
+                ast.parse(text, feature_version=(3, 8))
+                code = compile(text.replace("sys.version_info", "(3, 9, 18)"), path, "exec")
+                with self.assertRaises(SystemExit), contextlib.redirect_stderr(io.StringIO()) as told:
+                    try:
+                        exec(code, {"__name__": "__main__", "__file__": str(path)})
+                    except SystemExit as end:
+                        self.assertIn("Python 3.10 or later is needed, and this is 3.9", f"{end.code}{told.getvalue()}")
+                        raise
 
 
 class Ends(Case):
@@ -66,9 +95,13 @@ class Ends(Case):
             self.assertEqual((done.returncode, done.stderr.count("\n")), (status, 1), done.stderr)
 
     def test_an_interrupt_is_one_line(self):
-        slow = self.write("slow", "#!/bin/sh\necho asked >&2\nexec sleep 60\n")
+        # (once it has read its input, somebody waits for its answer)
+        slow = self.write("slow", "#!/bin/sh\ncat >/dev/null\necho asked >&2\nexec sleep 60\n")
         slow.chmod(0o755)
-        with subprocess.Popen([LAUNCHER, "check", ROVER, "--program", slow], stderr=subprocess.PIPE, text=True) as child:
+        # (a shell has what it starts in the background pass over interrupts)
+        heard = {"preexec_fn": lambda: signal.signal(signal.SIGINT, signal.default_int_handler)}
+        words = [LAUNCHER, "check", ROVER, "--program", slow]
+        with subprocess.Popen(words, stderr=subprocess.PIPE, text=True, **heard) as child:
             self.assertEqual(child.stderr.readline(), "asked\n")
             child.send_signal(signal.SIGINT)
             told = child.stderr.read()

@@ -11,9 +11,7 @@ from planner.commands import COMMANDS
 from planner.tests.support import EXAMPLES, ROOT, Case
 
 sys.path.insert(0, str(ROOT / "tools"))
-import completions
-import manuals
-import words
+from docs import completions, manuals, words
 
 INSTALL = ROOT / "tools" / "install"
 ROVER = EXAMPLES / "rover" / "plan.stnu"
@@ -35,7 +33,7 @@ class Installed(Case):
 
     def install(self, *words):
         more = {name: os.environ[name] for name in ("PATH", "STNU_PROGRAM") if name in os.environ}
-        return self.called(INSTALL, "--prefix", self.prefix, *words, **more)
+        return self.called(INSTALL, "--prefix", self.prefix, *words, SHELL="/bin/zsh", **more)
 
     def places(self):
         return sorted(str(it.relative_to(self.prefix)) for it in self.prefix.rglob("*"))
@@ -44,6 +42,7 @@ class Installed(Case):
         done = self.install()
         self.assertEqual(done.returncode, 0, done.stderr)
         self.assertRegex(done.stderr, r"stnu is (proved|compiled with checks)")
+        self.its_line_is_right_for_zsh(done.stderr)
         self.it_works()
         self.it_may_be_moved()
         self.installed_again_what_is_no_more_goes()
@@ -65,6 +64,16 @@ class Installed(Case):
         self.assertEqual(self.called("planner", "draw", "plan.stnu", "--svg", "plan.svg").returncode, 0)
         self.assertRegex(self.called("planner", "--version").stdout, r"commit .*\nstnu: .*/my tools/.*(proved|compiled with checks)")
         self.assertTrue(json.loads((self.prefix / "share/celeryadze/plan.schema.json").read_text()))
+
+    def its_line_is_right_for_zsh(self, told):
+        """The line that whoever uses zsh is told finds the completions, though the folder has a blank in its name."""
+        functions = self.prefix / "share/zsh/site-functions"
+        self.assertIn(f"before compinit: fpath+=('{functions}')\n", told)
+        self.assertEqual(sorted(it.name for it in functions.iterdir()), ["_planner", "_stnu"])
+        if shutil.which("zsh"):
+            settings = told.partition("before compinit: ")[2].split("\n")[0]
+            script = f"{settings}; autoload -Uz compinit; compinit -D -u; print $_comps[planner] $_comps[stnu]"
+            self.assertEqual(self.called("zsh", "-f", "-c", script).stdout, "_planner _stnu\n")
 
     def it_may_be_moved(self):
         other = self.folder / "other"

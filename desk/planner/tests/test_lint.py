@@ -38,6 +38,8 @@ SLIPS = [
     ("point relay\n", "", ["'relay'", "no point of this name is declared"]),
     ("point leave\n", "bound early sunrise leave 9\npoint leave\n", ["'leave'", "declared below, on line 8"]),
     ("images 60", "images 60 # an hour", ["'#'", "a remark stands on a line of its own"]),
+    ("images 60", "images 60 # fixed", ["'#'", "on a line of its own: '# fixed' stands on a line above the one that it holds"]),
+    ("images 60", "images 60 #fixed", ["'#fixed'", "'# fixed' stands on a line above the one that it holds"]),
     ("bound warm images", "bound images", ["4 words wanted after 'bound', and 3 stand there: has it a name?"]),
     ("images 60", "images 60 70", ["4 words wanted after 'bound', and 5 stand there"]),
     ("bound still-warm", "bound warm", ["'warm'", "a bound of this name stands on line 20"]),
@@ -57,7 +59,7 @@ WARNINGS = [
     ("warm-up -20", "warm-up 20", ["'warm'", "was 'at least 20 before' meant, -20?"]),
     ("relay images -30", "relay images 30", ["'ready'", "was 'at least 30 before' meant, -30?"]),
     ("arrive images 15", "images arrive 15", ["'before-shadow'", "are FROM and TO exchanged?"]),
-    ("leave sunrise -60", "sunrise leave -60", ["'charged'", "sunrise is the first point of the plan: are FROM and TO exchanged?"]),
+    ("leave sunrise -60", "sunrise leave -60", ["'charged'", "from which others are counted: are FROM and TO exchanged?"]),
     ("relay sunrise -240", "sunrise relay -240", ["'relay-not-sooner'", "it comes after: are FROM and TO exchanged?"]),
     ("relay images -30", "relay relay 3", ["'ready'", "a bound from a point to itself: this says nothing"]),
     ("stnu 1\n", "stnu 1\n# fixed warmth\n", ["'warmth'", "holds a bound or a link that the plan does not have"]),
@@ -107,16 +109,48 @@ class Slips(Case):
                 self.assertIn("planner: the program says: error plan 17 unknown-name\n", done.err)
                 self.assertIn("standard input:17: 'lave': no point of this name is declared; the nearest is 'leave' (line 7)", done.err)
 
+    def test_of_a_file_that_is_no_plan_other_commands_tell_the_first_faults(self):
+        page = self.write("page.md", "".join(f"- what stands on line {number}\n" for number in range(1, 31)))
+        done = planner("check", page)
+        self.assertEqual((done.status, done.out, done.err.count("\n")), (Status.PLAN, "", 12))
+        wanted = f"{page}:1: '-': the plan begins with a line 'stnu 1' or 'stnu 2'; wanted: stnu 2"
+        self.assertEqual(done.err.splitlines()[:2], ["planner: the program says: error format 1 no-header", wanted])
+        self.assertTrue(done.err.endswith(f"and 21 more, which 'planner lint {page}' tells\n"))
+        self.assertEqual(len(planner("lint", page).lines), 32)
+
     def test_text_after_the_end_is_told_by_other_commands(self):
         done = planner("check", given=ROVER + "bound more images arrive 3\n")
         self.assertEqual((done.status, done.out), (Status.KEPT, "the plan can be kept\n"))
         self.assertIn("standard input:32: warning: 'bound more images arrive 3'", done.err)
 
     def test_warnings_of_one_kind_are_not_told_without_end(self):
-        done = planner("lint", EXAMPLES / "large" / "day.stnu")
+        spare = "".join(f"point spare{number}\n" for number in range(45))
+        self.write("plan.stnu", ROVER.replace("point relay\n", f"point relay\n{spare}"))
+        done = planner("lint", "plan.stnu")
         self.assertEqual(len(done.lines), 7)
-        everything = json.loads(planner("lint", "--json", EXAMPLES / "large" / "day.stnu").out)
+        self.assertIn("plan.stnu: 40 more warnings of this kind (unbound), the next on line 17; --json lists all", done.lines)
+        everything = json.loads(planner("lint", "--json", "plan.stnu").out)
         self.assertEqual(len(everything["findings"]), 45)
+
+    def test_right_bounds_are_not_warned_of_where_the_later_point_is_declared_first(self):
+        # A countdown to the first point; a train, known by the clock, that is declared above the meeting before it.
+        countdown = "point takeoff\npoint fuelled\npoint boarded\nbound fuel takeoff fuelled -60\nbound seats takeoff boarded -20\n"
+        countdown += "bound fuel-soon fuelled takeoff 90\nbound seats-soon boarded takeoff 40\n"
+        train = "point day\npoint train\npoint meeting\nbound t1 day train 300\nbound t2 train day -300\n"
+        train += "bound m1 meeting day -180\nbound near meeting train 120\n"
+        for lines in (countdown, train):
+            self.assertEqual(planner("lint", given=f"stnu 1\n{lines}end\n").lines[:-1], [])
+        for path in (EXAMPLES / "large").glob("*.stnu"):
+            self.assertIn("0 warnings", planner("lint", path).lines[-1])
+
+    def test_a_fault_keeps_no_warning_back_that_it_does_not_cause(self):
+        text = ROVER.replace("leave 40 90 arrive", "leave 40 90 arive").replace("relay sunrise -240", "sunrise relay -240")
+        done = planner("lint", given=text + "bound more images arrive 3\n")
+        self.assertEqual(done.status, Status.PLAN)
+        self.assertIn("'arive': no point of this name", done.out)
+        self.assertIn("warning: 'relay-not-sooner': this says that relay comes at least 240 before sunrise", done.out)
+        self.assertIn("stands after the line 'end'", done.out)
+        self.assertIn("1 fault, 2 warnings; the program says: error plan 17 unknown-name", done.lines[-1])
 
 
 class Documents(Case):
@@ -147,6 +181,21 @@ class Documents(Case):
                     self.assertEqual(done.status, Status.PLAN)
                     self.assertIn(piece, done.lines[0])
 
+    def test_they_are_told_in_the_words_of_a_document(self):
+        plan = json.loads(DOCUMENT)
+        early = {"name": "early", "from": "sunrise", "low": 30, "high": 20, "to": "leave"}
+        back = {"name": "back", "from": "sunrise", "to": "relay", "most": -5}
+        spoiled = {**plan, "bounds": [*plan["bounds"], back], "between": [early]}
+        spoiled["links"] = [{**plan["links"][0], "low": 0, "from": "lave"}]
+        done = planner("lint", given=json.dumps(spoiled, indent=1) + "\nend\nmore\n")
+        self.assertIn("'low' is above 'high', so this cannot be kept", done.out)
+        self.assertIn("are 'from' and 'to' exchanged?", done.out)
+        self.assertRegex(done.out, r"'lave': no point of this name .* \(line \d+\); wanted: an object with from, low, high, to\n")
+        self.assertIn("'more': this stands after the line 'end' and is not read", done.out)
+        self.assertNotRegex(done.out, "FROM|HIGH|wanted: (bound|link|between)")
+        done = planner("lint", given=DOCUMENT.replace('"points": [', '"points": [ "9",'))
+        self.assertIn("'9': a number in the place of a name: are members exchanged?", done.out)
+
     def test_a_finding_as_a_value(self):
         done = planner("lint", "--json", given=DOCUMENT.replace('"low": 40', '"low": 0'))
         value = json.loads(done.out)
@@ -156,9 +205,9 @@ class Documents(Case):
 
 class Agreement(Case):
     def test_the_first_fault_is_the_one_of_the_program(self):
-        """Some hundred spoiled plans; tools/compare-lint draws as many as one likes."""
+        """Some hundred spoiled plans; tools/compare lint draws as many as one likes."""
         seed = str(random.Random(7).randrange(1000))
-        words = [sys.executable, ROOT / "tools" / "compare-lint", program().path, "150", seed]
+        words = [sys.executable, ROOT / "tools" / "compare", "lint", program().path, "150", seed]
         done = subprocess.run(words, stdout=subprocess.PIPE, text=True, check=False, cwd=ROOT)
         self.assertEqual(done.returncode, 0, done.stdout[-3000:])
         self.assertIn("300 plans, of which 0 differ", done.stdout)

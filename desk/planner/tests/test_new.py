@@ -4,12 +4,20 @@ import json
 
 from planner.commands.new import kinds
 from planner.faults import Status
-from planner.plan import Plan, load
-from planner.tests.support import Case, planner
+from planner.parts import Kind
+from planner.plan import Plan, document_source, load
+from planner.tests.support import Case, planner, program
 
 WANTED = {"vehicle", "shift", "laboratory", "spacecraft", "theatre", "airport"}
 # A plan to begin with fits on a page or two.
 LONGEST = 60
+
+
+def shown(source):
+    """What the program reads: the parts of a plan, of which a document has the bounds in an order of its own."""
+    answer = program().call(["show", "--print-json"], source)
+    plan = json.loads("\n".join(answer.lines[:-1]))
+    return plan | {"bounds": sorted(plan["bounds"], key=lambda it: it["name"]), "stnu": 2}
 
 
 class New(Case):
@@ -45,6 +53,12 @@ class New(Case):
             document, plan = json.loads(planner("new", kind, "--json").out), Plan.of(load(str(path)))
             self.assertEqual((document["points"], len(document["links"])), (list(plan.points), len(plan.links)))
             self.assertEqual(planner("check", given=json.dumps(document)).lines, ["the plan can be kept"])
+            self.assertEqual("between" in document, any(it.kind == Kind.BETWEEN for it in plan.statements))
+            self.assertEqual(shown(document_source(json.dumps(document), None)), shown(load(str(path))))
+
+    def test_a_file_of_a_document_has_one(self):
+        self.assertEqual(planner("new", "theatre", "--output", "plan.json").status, Status.KEPT)
+        self.assertEqual((self.folder / "plan.json").read_text(), planner("new", "theatre", "--json").out)
 
     def test_no_file_is_written_over(self):
         mine = self.write("mine.stnu", "my plan\n")

@@ -14,7 +14,7 @@ from planner.repair import OF_THE_PAST, hitting
 from planner.tests.support import EXAMPLES, ROOT, Case, planner, program, repeated, shown_calls
 
 sys.path.insert(0, str(ROOT / "tools"))
-from drawn import random_plan  # noqa: E402 (the path comes first)
+from inputs.random_plans import random_plan  # noqa: E402 (the path comes first)
 
 PLANS = ROOT / "desk" / "planner" / "tests" / "plans"
 
@@ -68,7 +68,9 @@ class ByHand(Case):
     def test_laboratory_seen_too_late(self):
         text = (PLANS / "laboratory.stnu").read_text()
         self.assertEqual(planner("repair", given=text).out, "the plan can be kept\n")
-        found = repairs(given=text.replace("between fresh ripe 20 40", "between fresh ripe 5 12"))
+        late = text.replace("between fresh ripe 20 40", "between fresh ripe 5 12")
+        self.assertIn("  delay 15 -> 12  (standard input:3: delay 12)\n", planner("repair", given=late).out)
+        found = repairs(given=late)
         self.assertEqual(of_sort("bound", found), [{"fresh.max": (12, 15)}])
         self.assertEqual(of_sort("delay", found), [{"delay": (15, 12)}])
         self.assertIn({"ripe": ([240, 360], [240, 247])}, of_sort("link", found))
@@ -113,12 +115,29 @@ class Held(Case):
         done = planner("repair", PLANS / "airport.stnu", "--fixed", "slott")
         self.assertEqual((done.status, done.out), (Status.WORDS, ""))
         self.assertIn("was 'slot' meant?", done.err)
+        done = planner("repair", EXAMPLES / "rover" / "variant.stnu", "--fixed", "leave")
+        self.assertIn("no bound and no link 'leave'; a link goes by the point in which it ends: 'arrive' from 'leave'", done.err)
 
     def test_only_the_bounds_that_may_be_loosened_in_their_order(self):
         found = repairs(PLANS / "theatre.stnu", "--among", "out-1,child")
         self.assertEqual(found, [("set", {"out-1.min": (-10, -8), "child.max": (390, 440)})])
         found = repairs(PLANS / "theatre.stnu", "--among", "child.max", "--among", "out-1.min")
         self.assertEqual(found, [("set", {"child.max": (390, 432), "out-1.min": (-10, 0)})])
+
+    def test_what_is_held_fast_in_a_second_refutation_is_told_too(self):
+        bounds = "bound ab a b 5\nbound ba b a -10\nbound cd c d 3\nbound dc d c -8\n"
+        text = f"stnu 1\npoint a\npoint b\npoint c\npoint d\n{bounds}end\n"
+        for fixed, left in (("ab,cd", "ab (fixed), cd (fixed)"), ("ab,ba", "ab (fixed), ba (fixed)"), ("cd,dc", "cd (fixed), dc (fixed)")):
+            with self.subTest(fixed):
+                _, _, told = planner("repair", "--fixed", fixed, given=text).lines[-1].partition("that a refutation names: ")
+                self.assertEqual(sorted(told.split(", ")), left.split(", "))
+
+    def test_a_program_is_told_what_was_left_only_if_nothing_is_enough(self):
+        told = [json.loads(line)["repair"] for line in planner("repair", "--json", PLANS / "airport.stnu").lines]
+        self.assertEqual(told, ["bound", "link", "link", "link"])
+        done = planner("repair", "--json", PLANS / "airport.stnu", "--fixed", "slot,patience,passengers-off,cleaned,boarded")
+        self.assertEqual(json.loads(done.lines[-1])["left"]["slot.max"], "fixed")
+        self.assertIsNone(json.loads(done.lines[-1])["repair"])
 
     def test_nothing_is_enough(self):
         done = planner("repair", PLANS / "airport.stnu", "--fixed", "slot,patience,passengers-off,cleaned,boarded")

@@ -1,5 +1,7 @@
 """What is left of a day: its plan, and what nobody can say of it."""
 
+import json
+
 from planner.faults import Status
 from planner.tests.children import quickly
 from planner.tests.support import EXAMPLES, Case
@@ -49,6 +51,7 @@ class Theatre(Case):
         refused = {
             ("--link", "closed", "170", "140"): "LOW is at least 1 and at most HIGH, and they are 170 and 140",
             ("--link", "clsoed", "140", "170"): "no link ends in 'clsoed'; was 'closed' meant?",
+            ("--link", "cut", "140", "170"): "no link ends in 'cut'; a link goes by the point in which it ends: 'closed' from 'cut'",
             ("--link", "closed", "140", "x"): "whole numbers are wanted",
             ("--link", "asleep", "40", "60"): "asleep has come at 22",
             ("--came", "cutt", "20"): "the plan has no 'cutt'; was 'cut' meant?",
@@ -93,6 +96,32 @@ end
         self.assertIn("# not kept: between cut-1 asleep 0 0 cut", done.lines)
         self.assertIn("'add bound tried.max asleep cut 0' 'add bound tried.min cut asleep 0' verdict", done.err)
 
+    def test_a_link_whose_durations_are_changed_is_told(self):
+        done = self.rest("--link", "closed", "140", "250")
+        self.assertIn("the link closed, which began at 22, may last 140 to 250 now, and 75 to 130 by the plan before", done.err)
+
+    def test_what_was_to_be_executed_and_is_not_told_is_said(self):
+        self.write("lines", "at 0\nat 22 asleep\nat 100 closed\n")
+        self.write("theatre.stnu", THEATRE.replace("clean closed 0 30", "clean closed 10 30"))
+        done = self.rest("--now", "120")
+        self.assertIn("cleaned was to be executed at 110, and no line tells that it was: if so, say it by --came cleaned 110", done.err)
+        done = self.rest("--now", "120", "--came", "cleaned", "112", "--show-calls")
+        self.assertNotIn("was to be executed", done.err)
+        self.assertIn("between cleaned.came begin 112 112 cleaned", done.lines)
+        self.assertNotIn("was to be executed", self.rest("--now", "105").err)
+
+    def test_with_a_clock_moments_are_times_of_day(self):
+        words = ["--clock", "7:30", "--now", "10:10", "--link", "closed", "140", "250", "--came", "cut", "7:54"]
+        done = self.rest(*words)
+        self.assertIn("bound cleaned.from-now cleaned begin -160", done.lines)
+        self.assertIn("between cut.came begin 24 24 cut", done.lines)
+        self.assertIn("the link closed, which began at 7:54, may last", done.err)
+        self.assertEqual(done.out, self.rest("--now", "160", "--link", "closed", "140", "250", "--came", "cut", "24").out)
+        done = self.rest("--clock", "7:30", "--now", "9:00")
+        self.assertIn("the lines of the day go on until 10:02, so that it cannot be 9:00 now", done.err)
+        for words in (["--now", "1e3"], ["--now", "4000000000"], ["--came", "cut", "x"]):
+            self.assertEqual(self.rest(*words).status, Status.WORDS)
+
     def test_a_rest_that_cannot_be_kept_says_so(self):
         done = self.rest("--link", "closed", "140", "290")
         self.assertEqual(done.status, Status.NOT_KEPT)
@@ -129,6 +158,24 @@ end
         done = quickly("rest", "theatre.stnu", "lines.day")
         self.assertIn("between asleep.came begin 21 21 asleep", done.lines)
 
+    def test_only_the_plan_of_a_rest_is_written_over(self):
+        other = self.write("other.stnu", THEATRE)
+        done = self.rest("--link", "closed", "140", "250", "--out", "other.stnu")
+        self.assertEqual((done.status, done.out, other.read_text()), (Status.WORDS, "", THEATRE))
+        self.assertIn("other.stnu is there, and was not written by 'planner rest': name another file by --out", done.err)
+        for name in ("left.stnu", "left.json"):
+            for high in ("250", "255"):
+                self.assertEqual(self.rest("--link", "closed", "140", high, "--out", name).status, 0)
+            self.assertIn("255", (self.folder / name).read_text())
+
+    def test_a_line_that_is_none_of_a_day_is_told_and_nothing_written(self):
+        """So are a file that is none, and the plan in its place: a line that is left out would be a day that never was."""
+        for given, word in (("at 0\natt 22 asleep\n", "'att'"), (THEATRE, "'stnu'"), ("at 0\nact 0 begin\n", "'act'")):
+            self.write("lines", given)
+            done = self.rest("--out", "left.stnu")
+            self.assertEqual((done.status, done.out, (self.folder / "left.stnu").exists()), (Status.EVENT, "", False))
+            self.assertIn(f"lines: {word} begins no line of a day, nor one of a session over its plan", done.err)
+
     def test_lines_that_the_program_refuses_are_told(self):
         self.write("lines", "at 0\nat 22 aslep\nat 30\n")
         done = self.rest()
@@ -147,6 +194,13 @@ class Rover(Case):
         done = quickly("rest", ROVER / "plan.stnu", "lines")
         self.assertIn("bound warm images warm-up -15", done.lines)
         self.assertIn("'set between ready 1 2' is refused, as it was then: refused unknown-name", done.err)
+
+    def test_a_file_of_a_document_has_one(self):
+        self.write("lines", "at 0\n")
+        done = quickly("rest", ROVER / "plan.stnu", "lines", "--out", "rest.json")
+        self.assertEqual(done.status, 0)
+        self.assertEqual(json.loads((self.folder / "rest.json").read_text())["points"][0], "sunrise")
+        self.assertEqual(quickly("check", "rest.json").out, "the plan can be kept\n")
 
     def test_a_document_gives_a_text(self):
         self.write("lines", "at 0\n")

@@ -93,6 +93,13 @@ class Rooms(RoomCase):
         self.assertEqual(done.lines[-5].split(), ["now", "41"])
         self.assertEqual([line.split()[:2] for line in done.lines[-3:]], [["v03", "LATE"], ["v01", "LATE"], ["v02", "30"]])
 
+    def test_the_moment_of_a_line_that_is_taken_back_is_no_more_that_of_the_room(self):
+        """A slip of an hour makes nobody late once it is taken back; a moment that was said, and none told, may be said anew."""
+        done = self.room("v01 at 0", "v02 at 0", "v02 at 20 there", "v02 at 3000", "undo v02", "table", "now 2000", "now 10", "now 25")
+        self.assertEqual([line for line in done.lines if line.startswith("now ")], ["now 0", "now 20", "now 2000", "now 25"])
+        self.assertIn("'now 10' is not taken: 20 was told already, and that is later", done.err)
+        self.assertEqual(self.room().lines[0], "now 25")
+
     def test_a_plan_more_and_one_that_was_mended_come_in_during_the_day(self):
         link = {"from": "a", "low": 3, "high": 9, "to": "b"}
         self.write("late.json", json.dumps({"stnu": 2, "delay": 2, "points": ["a", "b"], "links": [link]}))
@@ -126,6 +133,58 @@ class Rooms(RoomCase):
         self.assertIn("v01: taken back: the plan of the rest", "\n".join(done.lines))
         self.assertEqual(done.status, 0)
 
+    def test_a_slip_that_is_mended_makes_no_status(self):
+        mended = [("v1 at 0", "v01 at 0"), ("tabel", "table")]
+        mended += [("v01 at 0", slip, "table", "v01 at 30 there") for slip in ("v01 at 30 thre", "v01 30 there")]
+        for lines in mended:
+            with self.subTest(lines):
+                done = self.room(*lines)
+                self.assertEqual((done.status, done.err.count("is not taken")), (0, 1), done.err)
+                self.assertNotRegex(done.err, r"error \w+ \d+")
+                (self.folder / "day.room").unlink()
+        # Each vehicle has slips of its own.
+        done = self.room("v01 at 0", "v02 at 0", "v02 at 10 there", "v01 at 30 there")
+        self.assertEqual(done.status, Status.EVENT)
+
+    def test_a_plan_that_was_left_out_and_is_mended_makes_no_status(self):
+        os.mkfifo("pipe")
+
+        def tell():
+            with open("pipe", "w") as pipe:
+                pipe.write("v01 at 0\n")
+                pipe.flush()
+                self.write("v08.stnu", LEG)
+                pipe.write("add v08\n")
+
+        teller = threading.Thread(target=tell)
+        teller.start()
+        done = quickly("room", "v01.stnu", "v08.stnu", "--lines", "day.room", "--from", "pipe")
+        teller.join()
+        self.assertIn("v08 is left out", done.err)
+        self.assertEqual(done.status, 0)
+
+    def test_the_plan_of_a_rest_can_be_written_out_of_the_journal_of_a_room(self):
+        self.room("v01 at 0", "v02 at 0", "v01 at 12", "undo v01", "v01 at 22 there")
+        done = quickly("rest", "v01.stnu", "day.room", "--vehicle", "v01")
+        self.assertEqual(done.status, 0)
+        self.assertIn("between there.came go 22 22 there", done.lines)
+        self.assertIn("was 'v01' meant?", quickly("rest", "v01.stnu", "day.room", "--vehicle", "v001").err)
+        self.room("rest v02 --now 10 --link there 20 44")
+        done = quickly("rest", "v02.stnu", "day.room", "--vehicle", "v02")
+        self.assertEqual((done.status, done.out), (Status.WORDS, ""))
+        self.assertIn("v02 goes on by the plan of a rest, which only the room has: tell the room 'rest v02 ..'", done.err)
+
+    def test_a_rest_tells_which_durations_it_changes(self):
+        self.write("v01.stnu", LEG.replace("link go", "point back\nlink leave 5 9 back\nlink go"))
+        done = self.room("v01 at 0", "rest v01 --now 10 --link back 7 12")
+        self.assertIn("the link back, which has not begun, may last 7 to 12 now, and 5 to 9 by the plan before", "\n".join(done.lines))
+        done = self.room("rest v01 --now 12 --link there 20 44")
+        self.assertIn("the link there, which began at 0, may last 20 to 44 now, and 20 to 40 by the plan before", "\n".join(done.lines))
+        done = self.room("rest v01 --now 13 --link back 70 120")
+        self.assertEqual(done.status, 0)
+        done = self.room("rest v01 --now 14 --link there 70 120")
+        self.assertIn("what is left cannot be kept; the link there, which began at 0, may last 70 to 120 now", done.err)
+
     def test_a_room_has_more_vehicles_than_a_fleet(self):
         words = [f"w{number}=v01.stnu" for number in range(70)]
         done = self.room("w69 at 0", "w3 at 0", words=words)
@@ -137,6 +196,13 @@ class Rooms(RoomCase):
         self.assertIn("v01 is left out: a plan of this name is in the room", done.err)
         self.assertIn("'1st' is no name: NAME=FILE gives it one", done.err)
         self.assertIn("first", done.out)
+
+    def test_json_lines_tell_of_a_plan_that_is_left_out_too(self):
+        done = self.room("add v05.stnu", "add v02=v03.stnu", words=("v01.stnu", "v02.stnu", "--json"))
+        told = [json.loads(line) for line in done.lines]
+        self.assertEqual([it["taken"] for it in told if "taken" in it], [False, False])
+        self.assertIn("v05 is left out: the program says: not controllable", told[1]["why"])
+        self.assertIn("v02 is left out: a plan of this name is in the room", told[2]["why"])
 
     def test_json_lines_tell_each_line_and_the_table(self):
         said = [json.loads(line) for line in self.room("v01 at 0", "v1 at 0", words=("v01.stnu", "--json")).lines]
@@ -180,15 +246,26 @@ class Pages(RoomCase):
         Row("v5", "left out", why="it cannot be kept & more"),
     ]
 
+    TEXT = page(ROWS, 55, "room", "12:00:00", Numbers())
+
+    def tree(self):
+        return xml.fromstring(re.sub(r"<meta[^>]*>|<!DOCTYPE html>", "", self.TEXT))
+
     def test_it_is_well_formed_and_loads_itself_anew(self):
-        text = page(self.ROWS, 55, "room", "12:00:00", Numbers())
-        body = re.sub(r"<meta[^>]*>|<!DOCTYPE html>", "", text)
-        tree = xml.fromstring(body)
-        self.assertEqual(len(tree.findall(".//tbody/tr")), 3)
+        text = self.TEXT
+        self.assertEqual(len(self.tree().findall(".//tbody/tr")), 3)
         self.assertIn('<meta http-equiv="refresh"', text)
         self.assertIn("prefers-color-scheme: dark", text)
         self.assertNotIn("http:", text)
         self.assertIn("late: v&lt;1&gt;", text)
+
+    def test_no_dot_and_no_name_of_a_link_hides_the_other(self):
+        strip = self.tree().find(".//tbody/tr/td[@class='strip']/svg")
+        self.assertEqual([it.text for it in strip.findall("text")], ["there", "back"])
+        tags = [it.tag for it in strip]
+        self.assertGreater(tags.index("text"), max(place for place, tag in enumerate(tags) if tag == "circle"))
+        bar = min(float(it.get("y")) for it in strip.findall("rect"))
+        self.assertTrue(all(float(it.get("cy")) < bar for it in strip.findall("circle")))
 
     def test_ticks_are_few_and_marks_lie_on_the_strip(self):
         for first, last in ((0, 1), (0, 7), (0, 88), (13, 4_000_000_000), (0, 1000)):
