@@ -34,8 +34,20 @@ class NoKit(Exception):
     """There is no Rattle kit."""
 
 
+# What is called before a line is said: a line that moves makes room.
+BEFORE_SAYING = []
+
+
+def hand_on(text):
+    """Writes what others said, on standard error."""
+    for make_room in BEFORE_SAYING:
+        make_room()
+    sys.stderr.write(text)
+    sys.stderr.flush()
+
+
 def say(text):
-    print(f"stnu: {text}", file=sys.stderr, flush=True)
+    hand_on(f"stnu: {text}\n")
 
 
 def ended_by_signals(main, *words, interrupted=130):
@@ -67,10 +79,10 @@ def kit():
     return Path(found).resolve().parent.parent
 
 
-def words_of_link(to):
-    """The words by which the kit links the proved program of its object file."""
+def words_of_link(to, made=PROVED_OBJECT):
+    """The words by which the kit links a program of its object file, by default the proved one."""
     words = [kit() / "bin/rattle-link", "--target", "x86_64-unknown-linux-gnu", "--toolchain", kit() / "toolchain", "-o", to]
-    return [*words, PROVED_OBJECT, kit() / "c/libos_c.a", kit() / "c/liblibc_c.a"]
+    return [*words, made, kit() / "c/libos_c.a", kit() / "c/liblibc_c.a"]
 
 
 def libraries_of_kit(names):
@@ -142,17 +154,23 @@ class Crates:
                     sum.update(repr((os.path.relpath(path, self.root), Path(path).read_bytes())).encode())
         return sum.hexdigest()
 
-    def sources_below(self, name):
+    def kit_below(self, name):
+        """The libraries of the kit that a crate and those below it stand on, each with those that
+        it uses."""
+        return libraries_of_kit(["std", *(it for crate in [name, *self.below(name)] for it in self.of_kit(crate))])
+
+    def roots_below(self, name):
+        """The root files of the crates below, and of the libraries of the kit, by their names."""
+        roots = {crate: f"{self.folder(crate)}/src/lib.rt" for crate in self.below(name)}
+        return roots | {library: f"{kit()}/rattle/{library}/src/lib.rt" for library in self.kit_below(name)}
+
+    def sources_below(self, name, roots):
         """The words by which a compiler is given the crates below, and the libraries of the kit, as
-        source."""
-        words, named = [], ["std"]
-        for crate in self.below(name):
-            uses = dict.fromkeys(["core", *self.of_kit(crate), *self.own(crate)])
-            words += ["--lib", f"{crate}:{','.join(uses)}={self.folder(crate)}/src/lib.rt"]
-        for crate in [name, *self.below(name)]:
-            named += self.of_kit(crate)
-        for library, uses in libraries_of_kit(named).items():
-            words += ["--lib", f"{library}:{','.join(uses)}={kit()}/rattle/{library}/src/lib.rt"]
+        source with these root files."""
+        words = []
+        uses = {crate: dict.fromkeys(["core", *self.of_kit(crate), *self.own(crate)]) for crate in self.below(name)}
+        for library, used in (uses | self.kit_below(name)).items():
+            words += ["--lib", f"{library}:{','.join(used)}={roots[library]}"]
         return words
 
 
@@ -254,8 +272,12 @@ class Guarded:
         os.close(self.held)
         self.shell.wait()
 
+    def group(self):
+        """The process group that ends."""
+        return self.shell.pid
+
     def start(self, words, **how):
-        group = self.shell.pid
+        group = self.group()
         how = {"stdin": subprocess.DEVNULL, **how}
         return subprocess.Popen([*map(str, words)], preexec_fn=lambda: os.setpgid(0, group), **how)
 

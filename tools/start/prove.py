@@ -1,23 +1,23 @@
 """Proves the crates that the program stands on and builds it, for the launcher `./stnu`.
 
-Standard error says a line a crate. Each crate is proved once, from its sources, as `rt ci` proves
-it, and of its proofs the library keeps what other crates cite. Independent crates are proved side
-by side, as many as there are processors, each by one job: more jobs take up to a third more
-processor time. What is proved is kept, and proved again only where its sources changed, or the
-libraries below it. While this works no other `rt` does in these crates; the launcher goes on.
-Status: 0, or 1 where a crate is not proved.
+Standard error says how far it is and how long the last took (STNU_QUIET=1 leaves that out). Each
+crate is proved once, from its sources, as `rt ci` proves it, and of its proofs the library keeps
+what other crates cite. Independent crates are proved side by side, as many as there are processors,
+each by one job: more jobs take up to a third more processor time. What is proved is kept, and
+proved again only where its sources changed, or the libraries below it. While this works no other
+`rt` does in these crates; the launcher goes on. Status: 0, or 1 where a crate is not proved.
 """
 
 import os
 import resource
 import subprocess
-import time
 from graphlib import TopologicalSorter
 
 from shared.making import (
     PROGRAM,
     PROVED,
     PROVED_OBJECT,
+    START,
     Crates,
     Guarded,
     ended_by_signals,
@@ -31,8 +31,12 @@ from shared.making import (
     words_of_link,
     write,
 )
+from shared.progress import Progress, is_quiet
 
 LOG = "proving.log"
+# How long it takes: what the last took that proved all is noted, and else so long.
+LAST = START / "proving-seconds"
+USUAL = "the first takes twenty to forty minutes by four processors"
 
 
 class Proving:
@@ -43,6 +47,8 @@ class Proving:
         self.guarded = guarded
         self.order = self.crates.all()
         self.kit_sum = read(kit() / "KIT-ID")
+        # (how many this call proves)
+        self.proved = 0
         self.length = {}
         for name in reversed(self.order):
             after = (self.length[it] for it in self.length if name in self.crates.own(it))
@@ -117,7 +123,7 @@ class Proving:
             for name in names:
                 if self.is_kept(name):
                     order.done(name)
-                    tell(name, "proved earlier")
+                    tell(under_way=())
                 else:
                     found.append(name)
         return found
@@ -136,23 +142,24 @@ class Proving:
                 under_way[ran.pid] = ran, name, stamp
             if not under_way:
                 break
-            name, used, is_proved_now = self.wait(under_way)
+            tell(under_way=[name for _, name, _ in under_way.values()], done=0)
+            name, is_proved_now = self.wait(under_way)
             if is_proved_now:
+                self.proved += 1
                 order.done(name)
-                tell(name, f"{used:.0f} s of processor time")
+                tell(under_way=[name for _, name, _ in under_way.values()])
             else:
                 failed = failed or name
         return failed
 
     def wait(self, under_way):
-        """Waits until one of these proofs ends. Gives its crate, the processor time that it took,
-        and whether the crate is proved."""
+        """Waits until one of these proofs ends. Gives its crate, and whether that is proved."""
         while True:
-            pid, status, used = os.wait4(-1, 0)
+            pid, status = os.wait()
             if pid in under_way:
                 ran, name, stamp = under_way.pop(pid)
                 ran.returncode = os.waitstatus_to_exitcode(status)
-                return name, used.ru_utime + used.ru_stime, self.ended(name, ran.returncode, stamp)
+                return name, self.ended(name, ran.returncode, stamp)
 
     def link(self):
         """Whether the program is linked of what was compiled, and stands in its place."""
@@ -166,18 +173,28 @@ class Proving:
         return True
 
 
+def prove_and_link(proving, progress):
+    """Proves what is not proved, and links the program. Gives the crate that is not proved, or
+    None."""
+    count = 0
+
+    def tell(under_way, done=1):
+        nonlocal count
+        count += done
+        progress.at(count, len(proving.order), f"{', '.join(under_way)} under way" if under_way else "")
+
+    failed = proving.prove_all(len(os.sched_getaffinity(0)), tell)
+    return PROGRAM if failed is None and not proving.link() else failed
+
+
 def build(crates, proving):
-    began, processors = time.monotonic(), len(os.sched_getaffinity(0))
-    sum, told = crates.sum_of(crates.all()), []
-
-    def tell(name, how):
-        told.append(name)
-        say(f"crate {len(told)} of {len(proving.order)}, {name}, after {time.monotonic() - began:.0f} s ({how})")
-
-    say(f"the program is proved and built, by {processors} processors, which takes a while")
-    failed = proving.prove_all(processors, tell)
-    if failed is None and not proving.link():
-        failed = PROGRAM
+    sum = crates.sum_of(crates.all())
+    if not is_quiet():
+        say(f"the program is proved and built, by {len(os.sched_getaffinity(0))} processors, which takes a while")
+    with Progress("the program is proved", LAST, USUAL, "crates") as progress:
+        failed = prove_and_link(proving, progress)
+        if failed is None and proving.proved == len(proving.order):
+            progress.keep()
     if failed is not None:
         say(f"{failed} is not proved, or was changed meanwhile; what the prover said is in crates/{failed}/out/{LOG}")
         return 1
@@ -186,7 +203,8 @@ def build(crates, proving):
         return 1
     note_proved(sum)
     used = resource.getrusage(resource.RUSAGE_CHILDREN)
-    say(f"the program is proved and built, in {(used.ru_utime + used.ru_stime) / 60:.1f} minutes of processor time")
+    if not is_quiet():
+        say(f"the program is proved and built, in {(used.ru_utime + used.ru_stime) / 60:.1f} minutes of processor time")
     return 0
 
 

@@ -21,6 +21,7 @@ from shared.making import (
     Crates,
     ended_by_signals,
     is_proved,
+    kit,
     locked,
     read,
     say,
@@ -29,9 +30,10 @@ from shared.making import (
     write,
 )
 from shared.places import ROOT, TOOLS
+from shared.progress import is_quiet
 
 # What the checked program depends on beside its sources, and how it is called.
-COMPILER = TOOLS / "start" / "compile.py"
+COMPILER = [TOOLS / "start" / it for it in ("bitcode.py", "compile.py", "needed.py", "parts.py")]
 COMPILE = TOOLS / "compile-checked"
 # What is changed within this time of another change may bear the same time (nanoseconds).
 TICK = 20_000_000
@@ -58,12 +60,13 @@ class Ready:
                 return found
             time.sleep(TICK / 1e9)
 
-    def note(self, which, paths):
+    def note(self, which, paths, but=()):
         """Notes that this program is made of the sources as long as none of these changes, nor a
-        source."""
-        found = self.settled([*self.sources, *map(str, paths)])
+        source, but for those with such an ending."""
+        sources = {it: was for it, was in self.sources.items() if not it.endswith(tuple(but))}
+        found = self.settled([*sources, *map(str, paths)])
         newest = max(it for it in found.values() if it is not None)
-        is_same = all(found[it] == was for it, was in self.sources.items())
+        is_same = all(found[it] == was for it, was in sources.items())
         if not is_same or None in found.values() or newest > time.time_ns():
             return
         part = START / f"{which}.new"
@@ -73,7 +76,7 @@ class Ready:
 
     def sum(self):
         """A sum of what the compiled program is made of; it is given no definition and no proof."""
-        return sum_of_file(COMPILER) + self.crates.sum_of(self.crates.all(), ".rt")
+        return " ".join([*map(sum_of_file, COMPILER), self.crates.sum_of(self.crates.all(), ".rt")])
 
     def is_compiled(self):
         with contextlib.suppress(OSError):
@@ -82,8 +85,10 @@ class Ready:
 
     def compile(self):
         """Compiles the program with checks. Gives the compiler's status."""
+        kit()
         sum = self.sum()
-        say("the program is compiled first, with checks and without a proof; three to four minutes")
+        if not is_quiet():
+            say("the program is compiled first, with checks and without a proof; about a minute by four processors, two by two")
         words = [COMPILE, ROOT, self.crates.program, CHECKED]
         ran = subprocess.run(words, stdin=subprocess.DEVNULL, stdout=sys.stderr, check=False)
         if ran.returncode == 0:
@@ -107,7 +112,9 @@ def made_checked(ready):
     if status == 0:
         # (a proved program appears in a folder that is there, or is made for it)
         above = next(it for it in PROVED.parents if it.is_dir())
-        ready.note("checked", [CHECKED, COMPILER, above, *[PROVED] * PROVED.is_file()])
+        paths = [CHECKED, *COMPILER, above, *[PROVED] * PROVED.is_file()]
+        # (definitions and proofs say only whether a proved program is still that of the sources)
+        ready.note("checked", paths, but=() if PROVED.is_file() else (".antt",))
     return status
 
 

@@ -1,0 +1,1 @@
+"""Tests of how the checked program is made."""
