@@ -1,3 +1,3 @@
 """Measures what calls cost: processor time, wall time and memory. No part of the gate."""
 
-COMMANDS = "check deadline figures fleet json judge library planner run session slim strong".split()
+COMMANDS = "check deadline figures fleet gate json judge library planner run session slim strong".split()
