@@ -9,8 +9,9 @@ that can be kept and one that cannot.
 
 The plain programs stand in tools/plain, in Rust, and are built by `cargo build --release`: `told`
 makes the same rounds by rows that are told what fell, and tells their number and that of the nodes;
-`blocks` makes them over dense words, by blocks; `closing` closes the table without rounds; `letter`
-makes the rounds by the letter of their definition. Of the program and of each plain one it prints
+`blocks` makes them over dense words, by blocks; `letter` makes the rounds by the letter of their
+definition. Three come to the verdict alone: `closing` closes the table without rounds, `forward`
+makes a forward closed table, and `morris` is the algorithm of Morris 2014. Of the program and of each plain one it prints
 wall and user seconds and the peak of memory (not below that of the process that starts it), of
 TRIES the one of fewest user seconds, and how many times the user seconds and the memory of a plain
 one the program took; the answers must agree. Then, within this run, how the time grows from the
@@ -53,10 +54,10 @@ def measured(kind, kept, points, given):
         print(f"{head}: {way} {plain.told}; {beside(ran, plain)}")
         if plain.answer != ran.answer:
             print(f"{head}: THE ANSWERS DIFFER")
-    if given.closing:
-        closing = run([BUILT, "closing"], plan)
-        print(f"{head}: closing {beside(ran, closing)}")
-        if closing.verdict() != ran.verdict():
+    for way in ("closing", "forward", "morris") if given.verdicts else ():
+        alone = run([BUILT, way], plan)
+        print(f"{head}: {way} {beside(ran, alone)}")
+        if alone.verdict() != ran.verdict():
             print(f"{head}: THE VERDICTS DIFFER")
     if points <= given.letter:
         print(f"{head}: letter {beside(ran, run([BUILT, 'letter'], plan, 1))}")
@@ -103,7 +104,8 @@ def words(parser):
     parser.add_argument("--workers", type=int, metavar="N", help=about)
     about = "run the plain program `letter` too, on plans of at most so many points"
     parser.add_argument("--letter", type=int, default=0, metavar="POINTS", help=about)
-    parser.add_argument("--closing", action="store_true", help="run the plain program `closing` too")
+    about = "run the plain programs too that come to the verdict alone"
+    parser.add_argument("--verdicts", action="store_true", help=about)
     about = "another program, such as that of an earlier commit, in place of the plain ones"
     parser.add_argument("--beside", metavar="OTHER", type=front.command, help=about)
     parser.add_argument("--engine", help="this engine beside the default, in place of the plain ones")

@@ -3,10 +3,10 @@
 Of each kind of plan (lanes, dense and chain of tools/inputs/plans.py) a plan of N points that can
 be kept is asked for the deadline from its first point to its last, and between as many more PAIRS
 of points as are drawn. Printed are user seconds of one run each: of `check` of the plan, which
-closes its table once; of `deadline`; of `check` of the plan with the bound at one less than the
-least number, whose rounds the refutation wants; and what is left of `deadline` without that, which
-is the verdict, each number that was tried, and the proof that is printed, with how many times
-`check` that is. The answers must agree: the proof with `check --proof` of the plan with the bound,
+closes a table of it forward once; of `deadline`; of `check --proof` of the plan with the bound at
+the least number and of `check` of it at one less, which make its two certificates; and what is left
+of `deadline` without these, which is the verdict and each number that was tried, with how many
+times `check` that is. The answers must agree: the proof with `check --proof` of the plan with the bound,
 and the refutation with `check` of it. The load of the machine comes first.
 """
 
@@ -43,7 +43,8 @@ def numbers_of(said):
     return int(words[3]), int(words[3]) - 1
 
 
-def after_verdict(program, call, plan):
+def certificate(program, call, plan):
+    """What a call puts after the verdict, and its user seconds."""
     said, seconds = run([program, *call], plan)
     return said.split(b"\n", 1)[1], seconds
 
@@ -51,15 +52,14 @@ def after_verdict(program, call, plan):
 def measured(program, head, plan, begin, end, once):
     said, whole = run([program, "deadline", begin, end], plan)
     proved, refuted = numbers_of(said)
-    wanted, refuting = b"", 0.0
-    if proved is not None:
-        wanted, _ = after_verdict(program, ["check", "--proof"], with_goal(plan, begin, end, proved))
-    if refuted is not None:
-        cert, refuting = after_verdict(program, ["check"], with_goal(plan, begin, end, refuted))
-        wanted += cert
-    left = max(whole - refuting, 0.0)
+    wanted, certifying = b"", 0.0
+    for call, number in ([["check", "--proof"], proved], [["check"], refuted]):
+        if number is not None:
+            cert, seconds = certificate(program, call, with_goal(plan, begin, end, number))
+            wanted, certifying = wanted + cert, certifying + seconds
+    left = max(whole - certifying, 0.0)
     _, told, certificates = said.split(b"\n", 2)
-    parts = f"deadline {whole:.2f} s, of that the last refutation {refuting:.2f} s, the rest {left:.2f} s"
+    parts = f"deadline {whole:.2f} s, its certificates {certifying:.2f} s, the rest {left:.2f} s"
     print(f"{head}: {told.decode()}: {parts}, {left / max(once, 0.01):.1f} times check ({once:.2f} s)", flush=True)
     if certificates != wanted:
         print(f"{head}: THE CERTIFICATES DIFFER")

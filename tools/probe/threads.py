@@ -100,8 +100,9 @@ CALLS = [
     Call("run", ["run"], [*plan(), "done"], 0, 1, TESTERS),
     Call("run of a plan that cannot be kept", ["run"], [*plan(BROKEN)], 1, 1, MOST),
     Call("play", ["play", "longest"], [*plan()], 0, 1, TESTERS),
-    # The plan is closed, and then with the one number that is tried, which will do.
-    Call("deadline", ["deadline", "p1", "first"], [*plan()], 0, 2, TESTERS),
+    # A table of the plan is closed forward, and one with the one number that is tried, which will
+    # do; then the closure with that number, which proves it.
+    Call("deadline", ["deadline", "p1", "first"], [*plan()], 0, 3, TESTERS),
     Call("deadline of a plan that cannot be kept", ["deadline", "first", "p1"], [*plan(BROKEN)], 1, 1, MOST),
     # A round when it is opened, and one after each edit.
     Call("session", ["session"], [*plan(), *EDITS, "verdict", "end"], 0, 3, MOST),

@@ -5,11 +5,14 @@
 //! WAY is how the verdict is sought: `told` makes rounds whose rows are told which ordinary edges fell in the last round; `blocks` makes
 //! the same rounds over dense words, a block of which is tested at once; `stale` makes, after the first round, the rows whose targets are
 //! stale, each from the start; `letter` makes every row of every round, and looks through all keys for the least; `closing` closes one
-//! table without rounds. Prints what `check` prints of a plan without faults. On
-//! standard error stand the rounds and the nodes; with --nodes a line for each node, in order of making, comes first.
+//! table without rounds; `forward` makes a forward closed table, and `morris` is the algorithm of Morris 2014. Prints what `check` prints of
+//! a plan without faults, of the last three ways without a refutation. On standard error stand the rounds and the nodes; with --nodes a line
+//! for each node, in order of making, comes first.
 
 mod blocks;
 mod closing;
+mod forward;
+mod morris;
 mod order;
 mod plan;
 mod refuting;
@@ -24,11 +27,11 @@ use std::io::{self, Read, Write};
 use std::process::ExitCode;
 
 /// How the verdict is sought.
-#[derive(Clone, Copy, PartialEq, Eq)]
+#[derive(Clone, Copy)]
 enum Way {
     Rounds(rounds::Way),
     Blocks,
-    Closing,
+    Alone(fn(&Plan) -> bool),
 }
 
 fn way_of(word: &str) -> Option<Way> {
@@ -37,7 +40,9 @@ fn way_of(word: &str) -> Option<Way> {
         "stale" => Some(Way::Rounds(rounds::Way::Stale)),
         "letter" => Some(Way::Rounds(rounds::Way::Letter)),
         "blocks" => Some(Way::Blocks),
-        "closing" => Some(Way::Closing),
+        "closing" => Some(Way::Alone(|plan| closing::close(plan).is_some())),
+        "forward" => Some(Way::Alone(forward::is_controllable)),
+        "morris" => Some(Way::Alone(morris::is_controllable)),
         _ => None,
     }
 }
@@ -74,20 +79,21 @@ fn by_blocks(plan: &Plan, shows_nodes: bool) -> io::Result<()> {
     tell(plan, outcome, rounds.nodes(), |from, to| rounds.node_of(from, to), shows_nodes)
 }
 
-fn by_closing(plan: &Plan) -> io::Result<()> {
-    let mut out = io::stdout().lock();
-    match closing::close(plan) {
-        Some(_) => writeln!(out, "controllable")?,
-        None => writeln!(out, "not controllable")?,
-    }
-    Ok(())
+/// Prints the verdict alone.
+fn alone(plan: &Plan, is_controllable: fn(&Plan) -> bool) -> io::Result<()> {
+    let verdict = if is_controllable(plan) {
+        "controllable"
+    } else {
+        "not controllable"
+    };
+    writeln!(io::stdout().lock(), "{verdict}")
 }
 
 fn main() -> ExitCode {
     let words: Vec<String> = std::env::args().skip(1).collect();
     let way = words.first().and_then(|word| way_of(word));
     let (Some(way), Some(shows_nodes)) = (way, shows_nodes(&words)) else {
-        eprintln!("usage: plain told|blocks|stale|letter|closing [--nodes] < PLAN");
+        eprintln!("usage: plain told|blocks|stale|letter|closing|forward|morris [--nodes] < PLAN");
         return ExitCode::from(2);
     };
     let mut text = String::new();
@@ -99,7 +105,7 @@ fn main() -> ExitCode {
     let done = match way {
         Way::Rounds(way) => by_rounds(&plan, way, shows_nodes),
         Way::Blocks => by_blocks(&plan, shows_nodes),
-        Way::Closing => by_closing(&plan),
+        Way::Alone(is_controllable) => alone(&plan, is_controllable),
     };
     match done {
         Ok(()) => ExitCode::SUCCESS,
