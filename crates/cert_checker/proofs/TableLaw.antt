@@ -24,7 +24,8 @@ use Rattle.strategy_model.specs.ShownLaws.{ControllableIsShown, ShownFormIsInsta
 use Rattle.net_model.specs.ShownForm.{shown_form}
 use Rattle.strategy_model.specs.Control.{IsControllable}
 use Rattle.strategy_model.specs.Dispatch.{Stands, IsClosedList, IsOrder}
-use Rattle.strategy_model.specs.DispatchLaws.{ClosedListsGiveStrategies}
+use Rattle.strategy_model.specs.DispatchLaws.{ForwardListsGiveStrategies}
+use Rattle.strategy_model.proofs.ClosedLemmas.{law_closed_lists_are_forward_closed}
 use Rattle.cert_format.specs.declared.certificate.Certificate.{Certificate}
 use Rattle.cert_format.specs.declared.certificate.Certificate.TheVariants.{Refutation, TableProof}
 use Rattle.cert_format.specs.declared.entry.Entry.{Entry}
@@ -397,7 +398,7 @@ sound_edges : (net : Plan) (edges : List Edge) → AllByRecursion (IsSoundEdge n
 sound_edges net [] all = tt
 sound_edges net (edge ∷ edges) all = (all.0.is_edge, sound_edges net edges all.1)
 
-table_controls : ClosedListsGiveStrategies → (net : Plan) → IsInstant net → (order : List (List ℕ)) (entries : List Entry) → table_passes net order entries ≡ Ok tt → IsControllable net
+table_controls : ForwardListsGiveStrategies → (net : Plan) → IsInstant net → (order : List (List ℕ)) (entries : List Entry) → table_passes net order entries ≡ Ok tt → IsControllable net
 unfolding table_passes
 table_controls law net instant order entries ok =
     let (points, named, more) = bind_ok (read_each (point_passes net) 1 order) _ tt ok in
@@ -406,7 +407,7 @@ table_controls law net instant order entries ok =
     let (_, ordered, closed) = bind_ok (order_passes net points edges) _ tt others in
     let sound = sound_edges net edges (edges_sound net instant.sound (length order + 1) entries edges read) in
     let list : IsClosedList net edges = record { edges_sound = All-from_recursion (IsEdge net) edges sound; closed = follows_stands net (length points + 1) edges base closed } in
-    let (strategy, controls, plays) = law net edges points instant list (is_order net edges points ordered) in
+    let (strategy, controls, plays) = law net edges points instant (law_closed_lists_are_forward_closed net edges list) (is_order net edges points ordered) in
     (strategy, controls)
 
 accepted_table : (passes : WalkPasses) → judged Controllable passes ≡ Accepted Controllable → passes ≡ Ok tt
@@ -417,10 +418,10 @@ other_claim : (passes : WalkPasses) → judged NotControllable passes ≡ Accept
 other_claim (Ok passed) accepted = cc
 other_claim (Err refused) accepted = cc
 
-controls_by : ClosedListsGiveStrategies → (net : Plan) (certificate : Certificate) → IsInstant net → judgement_of net certificate ≡ Accepted Controllable → IsControllable net
+controls_by : ForwardListsGiveStrategies → (net : Plan) (certificate : Certificate) → IsInstant net → judgement_of net certificate ≡ Accepted Controllable → IsControllable net
 controls_by law net (Refutation lines walk) instant accepted = absurd (other_claim (refutation_passes net lines walk) accepted)
 controls_by law net (TableProof order entries) instant accepted = table_controls law net instant order entries (accepted_table (table_passes net order entries) accepted)
 
 -- an accepted table proof gives a strategy that controls the network
-pub law_accepted_controls : ClosedListsGiveStrategies → ControllableIsShown → ShownFormIsInstant → AcceptedControls
+pub law_accepted_controls : ForwardListsGiveStrategies → ControllableIsShown → ShownFormIsInstant → AcceptedControls
 law_accepted_controls law is_shown is_instant = λ net certificate plan accepted. (is_shown net plan).1 (controls_by law (shown_form net) certificate (is_instant net plan) accepted)

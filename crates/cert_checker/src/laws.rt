@@ -32,7 +32,7 @@ pub fn law_accepted_excludes()
 pub fn law_accepted_controls()
     ensures { AcceptedControls }
 {
-    dispatch::law_closed_lists_give_strategies();
+    dispatch::law_forward_lists_give_strategies();
     shown::law_controllable_is_shown();
     shown::law_shown_form_is_instant();
 }

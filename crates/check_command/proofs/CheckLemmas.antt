@@ -21,7 +21,7 @@ use Rattle.check_command.specs.Engines.{engine_tests, takes}
 use Rattle.common_answers.specs.Faults.{refusing}
 use Rattle.input_texts.specs.PlanInput.{initial_input, input_reader, plan_in}
 use Rattle.input_texts.proofs.PlanInputLemmas.{input_by}
-use Rattle.verdicts.proofs.VerdictLemmas.{verdict_put}
+use Rattle.command_contracts.proofs.PutVerdictLemmas.{verdict_put}
 use Rattle.check_command.specs.declared.check_question.CheckFlags.{CheckFlags}
 use Rattle.command_contracts.proofs.DecidedLemmas.{after_line, no_refusal_is_controllable, no_refusal_is_refuted, yes_by, refutes_by}
 

@@ -1,5 +1,5 @@
--- `check` answers a network in one way, and if a proof is wanted, the certificate that proves it is the answer.
-use Rattle.std.proofs.Common.{◌≡◌, ℕ, Bool, true, false, List, ◌++◌, inl, sym, ap, ◌∙◌, true≢false}
+-- `check` answers a network in one way.
+use Rattle.std.proofs.Common.{◌≡◌, ℕ, Bool, true, false, List, ◌++◌, inl, sym, ap, ◌∙◌}
 use Rattle.net_model.specs.Network.{Plan}
 use Rattle.net_model.specs.ShownForm.{shown_form}
 use Rattle.cert_format.specs.CertificateWords.{printed_certificate}
@@ -7,16 +7,10 @@ use Rattle.cert_format.specs.declared.certificate.Certificate.{Certificate}
 use Rattle.closure_certificates.specs.Certified.{Proves}
 use Rattle.closure_certificates.proofs.LawProofs.{law_certificates_are_one}
 use Rattle.command_engine.specs.declared.endings.End.{End}
-use Rattle.common_answers.specs.VerdictLines.{controllable_line, PutsProved}
-use Rattle.verdicts.proofs.RefutationLemmas.{answers_once}
+use Rattle.common_answers.specs.VerdictLines.{controllable_line}
+use Rattle.command_contracts.proofs.PutVerdictLemmas.{answers_once}
 use Rattle.check_command.specs.CheckAnswers.{PutsYes, check_answers}
 use Rattle.check_command.specs.declared.check_question.CheckFlags.{CheckFlags}
-
--- if a proof is wanted, the certificate that proves it is the answer
-module _ (net : Plan) (cert : Certificate) (proves : Proves (shown_form net) cert) where
-  pub proved_yes : (proof : Bool) → proof ≡ true → (put : List ℕ) (end : End) → PutsProved cert put end → PutsYes proof net put end
-  proved_yes true wanted put end puts = (cert, proves, puts)
-  proved_yes false wanted put end puts = absurd (true≢false (sym wanted))
 
 yes_once : (proof : Bool) (net : Plan) (a b : List ℕ) (x y : End) → PutsYes proof net a x → PutsYes proof net b y → (a ≡ b) × (x ≡ y)
 yes_once false net a b x y puts also = (puts.0 ∙ sym also.0, puts.1 ∙ sym also.1)

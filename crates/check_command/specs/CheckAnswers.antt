@@ -33,9 +33,13 @@ PutsYes false net put end = PutsControllable put end
 PutsYes true net put end = (cert : Certificate) × Proves (shown_form net) cert × PutsProved cert put end
 
 -- The answer to a network is its verdict: that it is controllable, with the table proof of its shown form if that is wanted, or that it is not, and the
--- certificate that refutes that. The form in which the plan is given decides nothing of it, nor does the engine, and of the number of workers nothing is seen.
+-- certificate that refutes that.
+abbrev pub puts_verdict : (proof : Bool) → Plan → List ℕ → End → Type 0
+puts_verdict proof net put end = Decides net (PutsYes proof net put end) (λ cert. PutsRefuted cert put end)
+
+-- The form in which the plan is given decides nothing of it, nor does the engine, and of the number of workers nothing is seen.
 abbrev pub check_answers : CheckFlags → Plan → List ℕ → End → Type 0
-check_answers flags net put end = Decides net (PutsYes flags.proof net put end) (λ cert. PutsRefuted cert put end)
+check_answers flags net put end = puts_verdict flags.proof net put end
 
 -- the name of the flag by which a proof is wanted
 abbrev pub proof_name : List ℕ

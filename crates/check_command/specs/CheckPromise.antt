@@ -15,7 +15,7 @@ use Rattle.command_contracts.specs.Causes.{text_causes}
 use Rattle.input_texts.specs.PlanInput.{plan_in}
 use Rattle.command_contracts.specs.Programs.{Program, or_nothing, serves}
 use Rattle.common_answers.specs.VerdictLines.{controllable_line, refuted_line}
-use Rattle.verdicts.specs.Verdict.{PutsDecided}
+use Rattle.command_contracts.specs.PutVerdicts.{PutsDecided}
 use Rattle.check_command.specs.declared.check_question.CheckFlags.{CheckFlags}
 
 -- the verdict of a network is put, and after `controllable` a certificate that proves it, if one is wanted

@@ -1,17 +1,18 @@
 //! The command `check`: a plan, and then whether the network that it declares is controllable.
 
-ghost use Rattle.std.specs.Prelude.{◌≡◌, [], IfOk};
+ghost use Rattle.std.specs.Prelude.{◌≡◌, [], true, false, IfOk};
 ghost use Rattle.check_command.specs.CheckPromise.{CheckPromise};
 ghost use Rattle.check_command.specs.CheckAnswers.{check_answers, check_request, check_start};
 ghost use Rattle.check_command.specs.CheckAnswers.{check_syntax, checked_plan, engine_test};
-ghost use Rattle.check_command.specs.CheckAnswers.{PutsYes};
+ghost use Rattle.check_command.specs.CheckAnswers.{PutsYes, puts_verdict};
 ghost use Rattle.command_contracts.specs.Causes.{text_causes};
 ghost use Rattle.command_contracts.specs.Programs.{or_nothing};
+ghost use Rattle.verdicts.specs.Decisions.{IsOrderedClosure};
 ghost use Rattle.verdicts.specs.Verdict.{IsControllableBy};
 
 use crate::engine::{Engine, EnginePlan, EngineTest};
+use closure_certificates::laws::law_table_proofs_prove;
 use closure_certificates::table_proof;
-use closure_model::order_laws::law_ordered_tables_are_placed;
 use command_contracts::{OneRun, Request, Specified, WorkerCount, form_given};
 use command_engine::{Answer, AnswersOnce, End, Question, Tested};
 use command_words::{Arguments, Syntax};
@@ -157,34 +158,67 @@ fn put_verdict<R: Threads + Sync>(
     requires { answer.old.text ≡ [] }
     ensures { IfOk result (check_answers check.now net answer.new.text) }
 {
-    match net.decide(rt, alloc, &check.workers)? {
+    if check.flags.proof {
+        put_with_proof(rt, alloc, answer, net, &check.workers)
+    } else {
+        put_without_proof(rt, alloc, answer, net, &check.workers)
+    }
+}
+
+/// Puts the verdict of a network, and no proof that it is controllable, into the buffer, which is
+/// empty.
+fn put_without_proof<R: Threads + Sync>(
+    rt: &R,
+    alloc: Global,
+    answer: &mut Answer,
+    net: EnginePlan,
+    workers: &WorkerCount,
+) -> Result<End, AllocError>
+    requires { answer.old.text ≡ [] }
+    ensures { IfOk result (puts_verdict false net answer.new.text) }
+{
+    match net.refutation(rt, alloc, workers)? {
+        None => put_controllable(answer),
+        Some(certificate) => put_refuted(alloc, answer, &certificate),
+    }
+}
+
+/// Puts the verdict of a network into the buffer, which is empty, and the proof if it is
+/// controllable.
+fn put_with_proof<R: Threads + Sync>(
+    rt: &R,
+    alloc: Global,
+    answer: &mut Answer,
+    net: EnginePlan,
+    workers: &WorkerCount,
+) -> Result<End, AllocError>
+    requires { answer.old.text ≡ [] }
+    ensures { IfOk result (puts_verdict true net answer.new.text) }
+{
+    match net.decide_by_closure(rt, alloc, workers)? {
         Verdict::Controllable {
             stated,
             shown,
             closed,
-        } => put_yes(alloc, answer, &stated, &shown, &closed, check.flags.proof),
+        } => put_proof(alloc, answer, &stated, &shown, &closed),
         Verdict::Refuted(certificate) => put_refuted(alloc, answer, &certificate),
     }
 }
 
-/// Puts that a network is controllable into the buffer, which is empty, and if that is wanted the
-/// certificate that proves it by its shown form.
-fn put_yes(
+/// Puts that a network is controllable into the buffer, which is empty, and the certificate that
+/// proves it by its shown form.
+fn put_proof(
     alloc: Global,
     answer: &mut Answer,
     net: &Network,
     shown: &Network,
     closed: &Closed,
-    proof: bool,
 ) -> Result<End, AllocError>
     requires empty { answer.old.text ≡ [] }
-    requires verdict { IsControllableBy net.now shown.now closed.now }
-    ensures { IfOk result (PutsYes proof net.now answer.new.text) }
+    requires verdict { IsControllableBy IsOrderedClosure net.now shown.now closed.now }
+    ensures { IfOk result (PutsYes true net.now answer.new.text) }
 {
-    if !proof {
-        return put_controllable(answer);
-    }
-    law_ordered_tables_are_placed();
+    law_table_proofs_prove();
     law_controllable_is_shown();
     net.sound();
     let certificate = table_proof(alloc, shown, &closed.table, closed.order.as_slice())?;

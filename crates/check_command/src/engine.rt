@@ -1,16 +1,20 @@
 //! The engine by which a network is decided.
 
-ghost use Rattle.std.specs.Prelude.{◌≡◌, option_map, IfOk};
+ghost use Rattle.std.specs.Prelude.{◌≡◌, ◌≤◌, option_map, IfOk};
+ghost use Rattle.cell_table.specs.Limits.{key_count, most_keys};
 ghost use Rattle.check_command.specs.Engines.{engine_given, engine_of, engine_tests, takes};
 ghost use Rattle.check_command.specs.Engines.{reported_line};
-ghost use Rattle.verdicts.specs.Verdict.{IsVerdict};
+ghost use Rattle.verdicts.specs.Decisions.{IsOrderedClosure};
+ghost use Rattle.verdicts.specs.Verdict.{IsRefutedBy, IsVerdictBy};
 
 use cell_table::fits;
+use cert_format::Certificate;
 use command_contracts::WorkerCount;
 use command_engine::Test;
 use common_answers::Fault;
 use input_texts::{Notation, PlanNetwork};
 use net_model::Network;
+use network_closure::Closed;
 use std::alloc::{AllocError, Global};
 use std::marker::Model;
 use std::thread::Threads;
@@ -20,9 +24,10 @@ use verdicts::Verdict;
 /// made of rounds by either. No clause says which of them works.
 #[derive(Clone, Copy, Debug, PartialEq, Eq)]
 pub enum Engine {
-    /// Its table is closed by one worker, and tested by all.
+    /// A table is closed by one worker, and tested by all: a forward closed one, or the closure if a
+    /// proof is wanted.
     Rounds,
-    /// Its table is closed by all workers at once, in shared cells, which hold 1,000,000 keys:
+    /// The closure is made by all workers at once, in shared cells, which hold 1,000,000 keys:
     /// points times (points + links).
     Cells,
 }
@@ -121,20 +126,65 @@ impl Model for EnginePlan {
 }
 
 impl EnginePlan {
-    /// Decides whether the network is controllable, by its engine and these workers. `AllocError`
-    /// comes only for want of memory.
-    pub fn decide<R: Threads + Sync>(
+    /// The certificate that refutes the network, unless it is controllable, by its engine and these
+    /// workers. `AllocError` comes only for want of memory.
+    pub fn refutation<R: Threads + Sync>(
         self,
         rt: &R,
         alloc: Global,
         workers: &WorkerCount,
-    ) -> Result<Verdict, AllocError>
-        ensures { IfOk result (IsVerdict self) }
+    ) -> Result<Option<Certificate>, AllocError>
+        ensures { IfOk result (IsRefutedBy self) }
     {
         let EnginePlan { net, engine } = self;
         match engine {
-            Engine::Rounds => workers.decide(rt, alloc, net),
+            Engine::Rounds => refutation_by_rounds(rt, alloc, net, workers),
+            Engine::Cells => refutation_by_cells(rt, alloc, net, workers),
+        }
+    }
+
+    /// Decides whether the network is controllable by its closure, which proves it so, as its
+    /// engine and these workers make it. `AllocError` comes only for want of memory.
+    pub fn decide_by_closure<R: Threads + Sync>(
+        self,
+        rt: &R,
+        alloc: Global,
+        workers: &WorkerCount,
+    ) -> Result<Verdict<Closed>, AllocError>
+        ensures { IfOk result (IsVerdictBy IsOrderedClosure self) }
+    {
+        let EnginePlan { net, engine } = self;
+        match engine {
+            Engine::Rounds => workers.decide_by_closure(rt, alloc, net),
             Engine::Cells => workers.decide_by_cells(rt, alloc, net),
         }
     }
+}
+
+/// The certificate that refutes a network, unless it has a forward closed table with an order.
+fn refutation_by_rounds<R: Threads + Sync>(
+    rt: &R,
+    alloc: Global,
+    net: Network,
+    workers: &WorkerCount,
+) -> Result<Option<Certificate>, AllocError>
+    ensures { IfOk result (IsRefutedBy net) }
+{
+    let verdict = workers.decide(rt, alloc, net)?;
+    Ok(verdict.refutation())
+}
+
+/// The certificate that refutes a network whose keys shared cells hold, unless its closure, made in
+/// these, has an order.
+fn refutation_by_cells<R: Threads + Sync>(
+    rt: &R,
+    alloc: Global,
+    net: Network,
+    workers: &WorkerCount,
+) -> Result<Option<Certificate>, AllocError>
+    requires { key_count net ≤ most_keys }
+    ensures { IfOk result (IsRefutedBy net) }
+{
+    let verdict = workers.decide_by_cells(rt, alloc, net)?;
+    Ok(verdict.refutation())
 }

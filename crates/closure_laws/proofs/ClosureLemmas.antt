@@ -27,6 +27,7 @@ use Rattle.strategy_model.specs.DispatchLaws.{AreTrue}
 use Rattle.strategy_model.specs.declared.tree.Tree.{Tree}
 use Rattle.strategy_model.proofs.ExactLemmas.{law_exact_rules_keep_truth, cycle_is_loop}
 use Rattle.strategy_model.proofs.LoopLemmas.{law_loops_exclude_strategies}
+use Rattle.strategy_model.proofs.ClosedLemmas.{law_closed_lists_are_forward_closed}
 use Rattle.strategy_model.proofs.CompletenessLemmas.{law_closed_lists_decide}
 use Rattle.strategy_model.specs.Situations.{IsSituation}
 use Rattle.strategy_model.proofs.AheadLemmas.{law_dispatched_are_earliest}
@@ -75,7 +76,7 @@ law_derivable_cycles_exclude net cycle instant derived negative controllable =
 
 -- ---- tables as lists
 -- what a table has at most stands in the list of its edges
-stands_in : (table : Graph) (edge : Edge) → HasAtMost table edge → Stands (edges_of table) edge
+pub stands_in : (table : Graph) (edge : Edge) → HasAtMost table edge → Stands (edges_of table) edge
 stands_in table edge has = by (weight_of table (key_of edge)) refl has
   where
     by : (o : Option ℤ) → weight_of table (key_of edge) ≡ o → IsSomeAnd o (λ weight. weight ≤ℤ edge.weight) → Stands (edges_of table) edge
@@ -104,12 +105,12 @@ label_at net edge (Some label) labelled = by (slice_get net.links label.0) refl
         (link, declared, same_Some edge.to link.from (sym labelled ∙ begins ∙ ap (option_map (λ (link : Link). link.from)) declared))
 
 -- an edge of a sound table of a network is an edge of the network
-edge_of_table : (net : Plan) (table : Graph) → IsFor net table → IsGraph table → (edge : Edge) → HasEdge table edge → IsEdge net edge
+pub edge_of_table : (net : Plan) (table : Graph) → IsFor net table → IsGraph table → (edge : Edge) → HasEdge table edge → IsEdge net edge
 edge_of_table net table for sound edge has =
     let key : IsKey (shape_of net) (key_of edge) = subst (λ (shape : Shape). IsKey shape (key_of edge)) for (sound.keys edge has) in
     record { from_point = key.from_point; to_point = key.to_point; labelled = label_at net edge edge.label key.labelled }
 
-listed_all : (table : Graph) (P : Edge → Type 0) → ((edge : Edge) → HasEdge table edge → P edge) → All P (edges_of table)
+pub listed_all : (table : Graph) (P : Edge → Type 0) → ((edge : Edge) → HasEdge table edge → P edge) → All P (edges_of table)
 listed_all table P each =
     All-weaker (Contains (edges_of table)) P (λ edge among. each edge (listed_edge table edge among)) (edges_of table) (All-contains_itself (edges_of table))
 
@@ -146,12 +147,14 @@ law_closures_decide net table instant closure =
 earliest_if : (net : Plan) (table : Graph) (order : List PointId) (situation schedule : List ℕ) → IsInstant net → IsClosure net table → IsOrder net (edges_of table) order → IsSituation net situation
     → IsDispatched net (edges_of table) situation schedule → IsEarliest net situation schedule
 earliest_if net table order situation schedule instant closure ordered is_situation dispatched =
-    law_dispatched_are_earliest net (edges_of table) order situation schedule instant (law_closures_are_closed_lists net table instant.sound closure) ordered (closure_true net table instant closure) is_situation dispatched
+    law_dispatched_are_earliest net (edges_of table) order situation schedule instant
+    (law_closed_lists_are_forward_closed net (edges_of table) (law_closures_are_closed_lists net table instant.sound closure)) ordered (closure_true net table instant closure) is_situation dispatched
 
 pub law_closures_dispatch_earliest : ClosuresDispatchEarliest
 law_closures_dispatch_earliest net table order situation schedule instant closure ordered is_situation = (
   λ earliest.
-      let (made, dispatched) = law_dispatched_exist net (edges_of table) order situation instant (law_closures_are_closed_lists net table instant.sound closure) ordered is_situation in
+      let (made, dispatched) = law_dispatched_exist net (edges_of table) order situation instant
+      (law_closed_lists_are_forward_closed net (edges_of table) (law_closures_are_closed_lists net table instant.sound closure)) ordered is_situation in
       let same : made ≡ schedule = law_at_most_one_earliest net situation made schedule (earliest_if net table order situation made instant closure ordered is_situation dispatched) earliest in
       subst (IsDispatched net (edges_of table) situation) same dispatched,
   earliest_if net table order situation schedule instant closure ordered is_situation,

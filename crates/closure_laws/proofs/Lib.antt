@@ -1,2 +1,4 @@
 pub mod ClosureLemmas
 pub mod OrderLemmas
+pub mod ForwardLemmas
+pub mod CoverLemmas

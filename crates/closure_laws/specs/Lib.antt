@@ -1,1 +1,3 @@
 pub mod Laws
+pub mod Forward
+pub mod ForwardLaws

@@ -11,14 +11,14 @@ use Rattle.std.proofs.Math.ListN.{length-map}
 use Rattle.net_model.specs.Limits.{most_points, most_links, most_size, most_weight, within_size, IsWeight}
 use Rattle.net_model.specs.Network.{Plan, IsPlan, IsBound, IsLink}
 use Rattle.net_model.specs.Rules.{bound_edge, link_edge}
-use Rattle.net_model.specs.Rules as rules
+use Rattle.net_model.specs.ForwardRules as forward
 use Rattle.net_model.specs.declared.ids.PointId.{PointId}
 use Rattle.net_model.specs.declared.part.Bound.{Bound}
 use Rattle.net_model.specs.declared.part.Edge.{Edge}
 use Rattle.net_model.specs.declared.part.Link.{Link}
 use Rattle.closure_model.specs.Keys.{key_of, Shape, shape_of, IsKey}
 use Rattle.closure_model.specs.Tables.{Graph, HasAtMost, no_edges, IsAtMost, IsGraph, HasBase, base_edges, base_table}
-use Rattle.closure_model.specs.TableLaws.{BaseTableIsWeakest, ClosedTablesHaveTheBase}
+use Rattle.closure_model.specs.TableLaws.{BaseTableIsWeakest, ForwardClosedTablesHaveTheBase}
 use Rattle.closure_model.proofs.Lists.{Contains-tail, Contains-none, Contains-map, Contains-map_from}
 use Rattle.closure_model.proofs.TableLemmas.{table_of-given, table_of-has, all_lowered-shape}
 
@@ -126,8 +126,8 @@ base_weakest net graph base edge has = All-contains (HasAtMost graph) (base_edge
 pub law_base_table_is_weakest : BaseTableIsWeakest
 law_base_table_is_weakest net sound = (base_sound net sound, base_has net, base_weakest net)
 
-pub closed_has_base : ClosedTablesHaveTheBase
-closed_has_base net graph closed = all_contained (HasAtMost graph) (base_edges net) has
+pub forward_closed_has_base : ForwardClosedTablesHaveTheBase
+forward_closed_has_base net graph closed = all_contained (HasAtMost graph) (base_edges net) has
   where
     has : (edge : Edge) → Contains (base_edges net) edge → HasAtMost graph edge
     has edge inside = by (Contains-append_cases (map bound_edge net.bounds) (map (λ (e : ℕ × Link). link_edge (record { 0 = e.0 }) e.1) (enumerate_from 0 net.links)) edge inside)
@@ -136,8 +136,8 @@ closed_has_base net graph closed = all_contained (HasAtMost graph) (base_edges n
         by (inl here) =
             let (bound, at, is) = Contains-map_from bound_edge net.bounds edge here in
             let (place, declared) = slice_get-contained net.bounds bound at in
-            closed edge (rules.by_bound place bound declared is)
+            closed edge (forward.by_bound place bound declared is)
         by (inr there) =
             let (e, at, is) = Contains-map_from (λ (e : ℕ × Link). link_edge (record { 0 = e.0 }) e.1) (enumerate_from 0 net.links) edge there in
             let same : e.0 - 0 ≡ e.0 = omega arith in
-            closed edge (rules.by_link (record { 0 = e.0 }) e.1 (ap (slice_get net.links) (sym same) ∙ (numbered 0 net.links e at).1) is)
+            closed edge (forward.by_link (record { 0 = e.0 }) e.1 (ap (slice_get net.links) (sym same) ∙ (numbered 0 net.links e at).1) is)

@@ -6,7 +6,7 @@ use Rattle.net_model.specs.Network.{Plan, IsPlan}
 use Rattle.net_model.specs.declared.ids.PointId.{PointId}
 use Rattle.net_model.specs.declared.part.Edge.{Edge}
 use Rattle.closure_model.specs.Keys.{Key, Shape, IsKey, key_cmp, row_keys, all_keys}
-use Rattle.closure_model.specs.Tables.{Graph, HasEdge, edges_of, row_of, edges_at, table_of, IsLeast, base_table, HasBase, IsClosed, IsAtMost, IsGraph}
+use Rattle.closure_model.specs.Tables.{Graph, HasEdge, edges_of, row_of, edges_at, table_of, IsLeast, base_table, HasBase, IsForwardClosed, IsAtMost, IsGraph}
 
 -- the keys that there are, in their order, each once
 abbrev pub AllKeysAreListed : Type 0
@@ -30,6 +30,6 @@ abbrev pub BaseTableIsWeakest : Type 0
 BaseTableIsWeakest = (net : Plan) → IsPlan net → IsGraph (base_table net) × HasBase net (base_table net)
     × ((graph : Graph) → HasBase net graph → IsAtMost graph (base_table net))
 
--- a closed table has the base edges
-abbrev pub ClosedTablesHaveTheBase : Type 0
-ClosedTablesHaveTheBase = (net : Plan) (graph : Graph) → IsClosed net graph → HasBase net graph
+-- a forward closed table has the base edges
+abbrev pub ForwardClosedTablesHaveTheBase : Type 0
+ForwardClosedTablesHaveTheBase = (net : Plan) (graph : Graph) → IsForwardClosed net graph → HasBase net graph

@@ -8,6 +8,7 @@ use Rattle.std.specs.Option.{option_map, option_map_or}
 use Rattle.net_model.specs.Limits.{most_points, most_links, IsWeight}
 use Rattle.net_model.specs.Network.{Plan}
 use Rattle.net_model.specs.Rules.{bound_edge, link_edge, Follows}
+use Rattle.net_model.specs.ForwardRules.{FollowsForward}
 use Rattle.net_model.specs.declared.ids.PointId.{PointId}
 use Rattle.net_model.specs.declared.part.Edge.{Edge}
 use Rattle.net_model.specs.declared.part.Link.{Link}
@@ -91,6 +92,10 @@ HasBase net graph = All (HasAtMost graph) (base_edges net)
 -- weight that is no greater
 abbrev pub IsClosed : Plan → Graph → Type 0
 IsClosed net graph = (edge : Edge) → Follows net (edges_of graph) edge → HasAtMost graph edge
+
+-- a table is forward closed: whatever follows forward from its edges, it has at a weight that is no greater
+abbrev pub IsForwardClosed : Plan → Graph → Type 0
+IsForwardClosed net graph = (edge : Edge) → FollowsForward net (edges_of graph) edge → HasAtMost graph edge
 
 -- one table has each edge of another, at a weight that is no greater
 abbrev pub IsAtMost : (low high : Graph) → Type 0

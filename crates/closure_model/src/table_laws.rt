@@ -2,7 +2,7 @@
 
 ghost use Rattle.closure_model.specs.TableLaws.{AllKeysAreListed, EdgesAreListed, RowsAreListed};
 ghost use Rattle.closure_model.specs.TableLaws.{TablesHoldTheLeast, BaseTableIsWeakest};
-ghost use Rattle.closure_model.specs.TableLaws.{ClosedTablesHaveTheBase};
+ghost use Rattle.closure_model.specs.TableLaws.{ForwardClosedTablesHaveTheBase};
 
 /// The keys that there are stand in the list of all keys, in their order, each once.
 pub fn law_all_keys_are_listed()
@@ -30,7 +30,7 @@ pub fn law_base_table_is_weakest()
     ensures { BaseTableIsWeakest }
 {}
 
-/// A table that is closed under the exact rules has the base edges.
-pub fn law_closed_tables_have_the_base()
-    ensures { ClosedTablesHaveTheBase }
+/// A forward closed table has the base edges.
+pub fn law_forward_closed_tables_have_the_base()
+    ensures { ForwardClosedTablesHaveTheBase }
 {}

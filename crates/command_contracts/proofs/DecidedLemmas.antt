@@ -7,7 +7,7 @@ use Rattle.cert_format.specs.CertificateWords.{printed_certificate}
 use Rattle.command_engine.specs.Inputs.{AnswersOrRefuses}
 use Rattle.command_engine.specs.declared.endings.End.{End}
 use Rattle.common_answers.specs.VerdictLines.{controllable_line, refuted_line}
-use Rattle.verdicts.specs.Verdict.{PutsDecided}
+use Rattle.command_contracts.specs.PutVerdicts.{PutsDecided}
 use Rattle.common_answers.specs.Faults.{fault_line, refusing}
 use Rattle.input_texts.specs.PlanInput.{plan_in}
 use Rattle.common_answers.specs.declared.faults.Fault.{Fault}

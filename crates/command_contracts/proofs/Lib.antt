@@ -14,3 +14,4 @@ pub mod FormWordLemmas
 pub mod SameLemmas
 pub mod NothingLemmas
 pub mod PointTextLemmas
+pub mod PutVerdictLemmas

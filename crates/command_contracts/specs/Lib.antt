@@ -7,3 +7,4 @@ pub mod PlanQuestions
 pub mod Counts
 pub mod Requests
 pub mod WorkerCounts
+pub mod PutVerdicts

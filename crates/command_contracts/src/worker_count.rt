@@ -3,17 +3,20 @@
 ghost use Rattle.std.specs.Prelude.{◌≡◌, ◌≤◌, option_map, IfOk};
 ghost use Rattle.cell_table.specs.Limits.{key_count, most_keys};
 ghost use Rattle.plan_session.specs.Sessions.{IsOpenedOn};
-ghost use Rattle.verdicts.specs.Verdict.{IsVerdict};
+ghost use Rattle.verdicts.specs.Decisions.{IsOrderedClosure, IsOrderedForwardTable};
+ghost use Rattle.verdicts.specs.Verdict.{IsVerdictBy};
 ghost use Rattle.command_contracts.specs.WorkerCounts.{workers_of};
 
 use crate::counts::count_within;
+use forward_closure::ForwardClosed;
 use net_model::Network;
+use network_closure::Closed;
 use parallel_rounds::NoGate;
 use plan_session::OpenSession;
 use std::alloc::{AllocError, Global};
 use std::marker::Model;
 use std::thread::Threads;
-use verdicts::{Verdict, decide, decide_by_cells};
+use verdicts::{Verdict, decide, decide_by_cells, decide_by_closure};
 
 /// How many workers there may be.
 const MOST_WORKERS: u32 = 64;
@@ -69,10 +72,22 @@ impl WorkerCount {
         rt: &R,
         alloc: Global,
         net: Network,
-    ) -> Result<Verdict, AllocError>
-        ensures { IfOk result (IsVerdict net) }
+    ) -> Result<Verdict<ForwardClosed>, AllocError>
+        ensures { IfOk result (IsVerdictBy IsOrderedForwardTable net) }
     {
         decide(rt, alloc, net, self.count, &NoGate)
+    }
+
+    /// Decides the same by the closure. `AllocError` comes only for want of memory.
+    pub fn decide_by_closure<R: Threads + Sync>(
+        &self,
+        rt: &R,
+        alloc: Global,
+        net: Network,
+    ) -> Result<Verdict<Closed>, AllocError>
+        ensures { IfOk result (IsVerdictBy IsOrderedClosure net) }
+    {
+        decide_by_closure(rt, alloc, net, self.count, &NoGate)
     }
 
     /// Decides the same of a network whose keys shared cells hold, by these. `AllocError` comes
@@ -82,9 +97,9 @@ impl WorkerCount {
         rt: &R,
         alloc: Global,
         net: Network,
-    ) -> Result<Verdict, AllocError>
+    ) -> Result<Verdict<Closed>, AllocError>
         requires { key_count net ≤ most_keys }
-        ensures { IfOk result (IsVerdict net) }
+        ensures { IfOk result (IsVerdictBy IsOrderedClosure net) }
     {
         decide_by_cells(rt, alloc, net, self.count, &NoGate)
     }

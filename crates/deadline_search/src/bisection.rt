@@ -3,11 +3,11 @@
 
 ghost use Rattle.std.specs.Prelude.{pos, ◌+ℤ◌, ◌≤ℤ◌, ◌<ℤ◌, IfOk};
 ghost use Rattle.deadline_search.specs.Deadlines.{IsDeadline, lowest, highest};
-ghost use Rattle.deadline_search.specs.Trials.{IsFoundDeadline, IsKeptDeadline, IsLastKept};
+ghost use Rattle.deadline_search.specs.Trials.{IsFoundDeadline, IsLastDeadline};
 ghost use Rattle.deadline_search.specs.Trials.{IsSearch, widest};
 
 use crate::goal::{HIGHEST, LOWEST};
-use crate::goal_search::{Kept, Search};
+use crate::goal_search::Search;
 use net_model::Weight;
 use parallel_rounds::Gate;
 use std::alloc::{AllocError, Global};
@@ -66,15 +66,16 @@ impl Search {
         alloc: Global,
         gate: &G,
         guess: Weight,
-    ) -> Result<Option<Kept>, AllocError>
+    ) -> Result<Option<Weight>, AllocError>
         requires search { IsSearch self.now }
         requires low { lowest ≤ℤ guess }
         requires high { guess ≤ℤ highest }
         ensures { IfOk result (IsFoundDeadline self.now.net self.now.goal) }
     {
-        match self.tried(rt, alloc, gate, guess)? {
-            Some(kept) => Ok(Some(self.below(rt, alloc, gate, kept)?)),
-            None => self.above(rt, alloc, gate, guess),
+        if self.is_deadline(rt, alloc, gate, guess)? {
+            Ok(Some(self.below(rt, alloc, gate, guess)?))
+        } else {
+            self.above(rt, alloc, gate, guess)
         }
     }
 
@@ -84,19 +85,19 @@ impl Search {
         rt: &R,
         alloc: Global,
         gate: &G,
-        mut kept: Kept,
-    ) -> Result<Kept, AllocError>
+        mut kept: Weight,
+    ) -> Result<Weight, AllocError>
         requires search { IsSearch self.now }
-        requires kept { IsKeptDeadline self.now.net self.now.goal kept }
-        ensures { IfOk result (IsLastKept self.now.net self.now.goal) }
+        requires kept { IsDeadline self.now.net self.now.goal kept }
+        ensures { IfOk result (IsLastDeadline self.now.net self.now.goal) }
     {
         let mut step = 1;
-        while kept.most > LOWEST {
-            let next = lower(kept.most, step);
-            match self.tried(rt, alloc, gate, next)? {
-                Some(found) => kept = found,
-                None => return self.between(rt, alloc, gate, next, kept),
+        while kept > LOWEST {
+            let next = lower(kept, step);
+            if !self.is_deadline(rt, alloc, gate, next)? {
+                return self.between(rt, alloc, gate, next, kept);
             }
+            kept = next;
             step = doubled(step);
         }
         Ok(kept)
@@ -109,7 +110,7 @@ impl Search {
         alloc: Global,
         gate: &G,
         mut failed: Weight,
-    ) -> Result<Option<Kept>, AllocError>
+    ) -> Result<Option<Weight>, AllocError>
         requires search { IsSearch self.now }
         requires low { lowest ≤ℤ failed }
         requires high { failed ≤ℤ highest }
@@ -119,8 +120,8 @@ impl Search {
         let mut step = 1;
         while failed < HIGHEST {
             let next = higher(failed, step);
-            if let Some(kept) = self.tried(rt, alloc, gate, next)? {
-                return Ok(Some(self.between(rt, alloc, gate, failed, kept)?));
+            if self.is_deadline(rt, alloc, gate, next)? {
+                return Ok(Some(self.between(rt, alloc, gate, failed, next)?));
             }
             failed = next;
             step = doubled(step);
@@ -135,20 +136,21 @@ impl Search {
         alloc: Global,
         gate: &G,
         mut failed: Weight,
-        mut kept: Kept,
-    ) -> Result<Kept, AllocError>
+        mut kept: Weight,
+    ) -> Result<Weight, AllocError>
         requires search { IsSearch self.now }
         requires low { lowest ≤ℤ failed }
-        requires apart { failed <ℤ kept.most }
+        requires apart { failed <ℤ kept }
         requires none { ¬ IsDeadline self.now.net self.now.goal failed }
-        requires kept { IsKeptDeadline self.now.net self.now.goal kept }
-        ensures { IfOk result (IsLastKept self.now.net self.now.goal) }
+        requires kept { IsDeadline self.now.net self.now.goal kept }
+        ensures { IfOk result (IsLastDeadline self.now.net self.now.goal) }
     {
-        while kept.most - failed > 1 {
-            let next = middle(failed, kept.most);
-            match self.tried(rt, alloc, gate, next)? {
-                Some(found) => kept = found,
-                None => failed = next,
+        while kept - failed > 1 {
+            let next = middle(failed, kept);
+            if self.is_deadline(rt, alloc, gate, next)? {
+                kept = next;
+            } else {
+                failed = next;
             }
         }
         Ok(kept)

@@ -2,41 +2,42 @@
 
 ghost use Rattle.std.specs.Prelude.{IfOk};
 ghost use Rattle.strategy_model.specs.Control.{IsControllable};
+ghost use Rattle.verdicts.specs.Decisions.{IsOrderedForwardTable};
 ghost use Rattle.verdicts.specs.Verdict.{IsControllableBy};
 ghost use Rattle.deadline_search.specs.Answers.{IsAnswerOf};
 ghost use Rattle.deadline_search.specs.Deadlines.{IsDeadline, highest};
 ghost use Rattle.deadline_search.specs.Goals.{IsGoalName};
-ghost use Rattle.deadline_search.specs.Trials.{IsLastKept, IsSearch};
+ghost use Rattle.deadline_search.specs.Trials.{IsLastDeadline, IsSearch};
 
 use crate::answer::Deadline;
 use crate::goal::{HIGHEST, LOWEST};
-use crate::goal_search::{Kept, Search};
-use net_model::Network;
-use network_closure::Closed;
+use crate::goal_search::Search;
+use forward_closure::ForwardClosed;
+use net_model::{Network, Weight};
 use parallel_rounds::Gate;
 use std::alloc::{AllocError, Global};
 use std::thread::Threads;
 use strategy_model::laws::law_looser_bounds_keep_control;
 
 impl Search {
-    /// The tightest deadline of a controllable network, from its shown form and the closure of
-    /// that.
+    /// The tightest deadline of a controllable network, from its shown form and a forward closed
+    /// table of that.
     pub fn answered<R: Threads + Sync, G: Gate>(
         &self,
         rt: &R,
         alloc: Global,
         gate: &G,
         shown: Network,
-        closed: Closed,
+        closed: ForwardClosed,
     ) -> Result<Deadline, AllocError>
         requires search { IsSearch self.now }
         requires named { IsGoalName self.now.net self.now.goal.name }
-        requires closed { IsControllableBy self.now.net shown closed }
+        requires closed { IsControllableBy IsOrderedForwardTable self.now.net shown closed }
         ensures { IfOk result (IsAnswerOf self.now.net self.now.goal.from self.now.goal.to) }
     {
         let guess = self.guess(alloc, shown, closed)?;
         match self.least(rt, alloc, gate, guess)? {
-            Some(kept) => self.last(rt, alloc, gate, kept),
+            Some(most) => self.last(rt, alloc, gate, most),
             None => self.never(rt, alloc, gate),
         }
     }
@@ -47,18 +48,17 @@ impl Search {
         rt: &R,
         alloc: Global,
         gate: &G,
-        kept: Kept,
+        most: Weight,
     ) -> Result<Deadline, AllocError>
         requires search { IsSearch self.now }
         requires named { IsGoalName self.now.net self.now.goal.name }
         requires controllable { IsControllable self.now.net }
-        requires last { IsLastKept self.now.net self.now.goal kept }
+        requires last { IsLastDeadline self.now.net self.now.goal most }
         ensures { IfOk result (IsAnswerOf self.now.net self.now.goal.from self.now.goal.to) }
     {
         law_looser_bounds_keep_control();
         let goal = self.goal.name;
-        let most = kept.most;
-        let proof = self.proof(alloc, kept)?;
+        let proof = self.proof(rt, alloc, most)?;
         if most <= LOWEST {
             return Ok(Deadline::Floor { goal, proof });
         }

@@ -4,15 +4,16 @@ ghost use Rattle.std.specs.Prelude.{pos, ◌<◌, ◌≤ℤ◌, IfOk};
 ghost use Rattle.std.specs.List.{All};
 ghost use Rattle.net_model.specs.Limits.{most_delay};
 ghost use Rattle.net_model.specs.Network.{IsPoint};
+ghost use Rattle.verdicts.specs.Decisions.{IsOrderedForwardTable};
 ghost use Rattle.verdicts.specs.Verdict.{IsControllableBy};
 ghost use Rattle.deadline_search.specs.Deadlines.{lowest, highest};
 ghost use Rattle.deadline_search.specs.Trials.{IsSearch};
 
 use crate::goal::{HIGHEST, LOWEST};
 use crate::goal_search::Search;
+use forward_closure::ForwardClosed;
 use labelled_graph::Table;
 use net_model::{Link, Network, PointId, Weight};
-use network_closure::Closed;
 use std::alloc::{AllocError, Global};
 
 /// How many passes over all edges shorten the walks at most.
@@ -26,12 +27,18 @@ struct Walks {
 
 impl Search {
     /// A number at which to begin: were every duration the longest, no number below it would be a
-    /// deadline, since each edge of the closure would hold in its weight. So it is what the
-    /// shortest walk from the goal's end back to its beginning leaves, over the edges of the
-    /// closure and of the links.
-    pub fn guess(&self, alloc: Global, shown: Network, closed: Closed) -> Result<Weight, AllocError>
+    /// deadline, since each derivable edge would hold in its weight. So it is what the shortest
+    /// walk from the goal's end back to its beginning leaves, over the edges of a forward closed
+    /// table and of the links; those of the closure would shorten no walk
+    /// (`law_derivable_are_covered`).
+    pub fn guess(
+        &self,
+        alloc: Global,
+        shown: Network,
+        closed: ForwardClosed,
+    ) -> Result<Weight, AllocError>
         requires search { IsSearch self.now }
-        requires closed { IsControllableBy self.now.net shown closed }
+        requires closed { IsControllableBy IsOrderedForwardTable self.now.net shown closed }
         ensures low { IfOk result (λ guess. lowest ≤ℤ guess) }
         ensures high { IfOk result (λ guess. guess ≤ℤ highest) }
     {
@@ -74,9 +81,9 @@ impl Walks {
         *self.lengths.as_slice().get(point.0 as usize)?
     }
 
-    /// Shortens the walks by the edges of a closure and of links, as long as some walk becomes
+    /// Shortens the walks by the edges of a table and of links, as long as some walk becomes
     /// shorter.
-    fn shorten(&mut self, closed: &Closed, links: &[Link])
+    fn shorten(&mut self, closed: &ForwardClosed, links: &[Link])
         requires { All (λ point. point.0 < closed.now.table.shape.points) closed.now.order }
     {
         for _ in 0..MOST_PASSES {

@@ -1,23 +1,21 @@
-//! One search for a deadline: the network with the bound of a goal at a number, and what a number
-//! comes to.
+//! One search for a deadline: the network with the bound of a goal at a number, whether that is a
+//! deadline, and the certificate of that.
 
 ghost use Rattle.std.specs.Prelude.{◌≡◌, ◌≤ℤ◌, IfOk};
+ghost use Rattle.std.specs.Bool.{Decides};
 ghost use Rattle.deadline_search.specs.Answers.{ProvesAt, RefutesAt};
 ghost use Rattle.deadline_search.specs.Deadlines.{IsDeadline, lowest, highest};
 ghost use Rattle.deadline_search.specs.Goals.{with_goal};
-ghost use Rattle.deadline_search.specs.Trials.{IsKeptDeadline, IsSearch, IsTriedDeadline};
+ghost use Rattle.deadline_search.specs.Trials.{IsSearch};
 
 use crate::goal::Goal;
 use cert_format::Certificate;
-use closure_certificates::laws::law_table_proofs_prove;
-use closure_certificates::table_proof;
 use net_model::{Edit, EditFault, Network, Weight};
-use network_closure::Closed;
 use parallel_rounds::Gate;
 use std::alloc::{AllocError, Global};
 use std::thread::Threads;
 use strategy_model::laws::shown::law_controllable_is_shown;
-use verdicts::{decide_by_closure, refute};
+use verdicts::{forward_table_if_controllable, prove, refute};
 
 /// A network, the goal for whose bound a number is sought, and how many workers test a table.
 #[derive(Drop)]
@@ -25,15 +23,6 @@ pub(crate) struct Search {
     pub net: Network,
     pub goal: Goal,
     pub workers: u32,
-}
-
-/// A deadline: the number, the shown form of the network with the bound at it, and the closure of
-/// that.
-#[derive(Drop)]
-pub(crate) struct Kept {
-    pub most: Weight,
-    pub shown: Network,
-    pub closed: Closed,
 }
 
 impl Search {
@@ -58,32 +47,26 @@ impl Search {
         }
     }
 
-    /// Whether a number is a deadline, by closing the network with the bound at it.
-    pub fn tried<R: Threads + Sync, G: Gate>(
+    /// Whether a number is a deadline: whether the network with the bound at it is controllable.
+    pub fn is_deadline<R: Threads + Sync, G: Gate>(
         &self,
         rt: &R,
         alloc: Global,
         gate: &G,
         most: Weight,
-    ) -> Result<Option<Kept>, AllocError>
+    ) -> Result<bool, AllocError>
         requires search { IsSearch self.now }
         requires low { lowest ≤ℤ most }
         requires high { most ≤ℤ highest }
-        ensures { IfOk result (IsTriedDeadline self.now.net self.now.goal most) }
+        ensures { IfOk result (λ is. Decides is (IsDeadline self.now.net self.now.goal most)) }
     {
         law_controllable_is_shown();
         gate.before(self.goal.to.0);
         let net = self.at(alloc, most)?;
         net.sound();
         let shown = net.shown(alloc)?;
-        match decide_by_closure(rt, alloc, &shown, self.workers)? {
-            Some(closed) => Ok(Some(Kept {
-                most,
-                shown,
-                closed,
-            })),
-            None => Ok(None),
-        }
+        let found = forward_table_if_controllable(rt, alloc, &shown, self.workers)?;
+        Ok(found.is_some())
     }
 
     /// What refutes the network with the bound at a number that is no deadline.
@@ -105,12 +88,17 @@ impl Search {
     }
 
     /// What proves the network with the bound at a deadline controllable.
-    pub fn proof(&self, alloc: Global, kept: Kept) -> Result<Certificate, AllocError>
-        requires { IsKeptDeadline self.now.net self.now.goal kept }
-        ensures { IfOk result (ProvesAt self.now.net self.now.goal kept.most) }
+    pub fn proof<R: Threads + Sync>(
+        &self,
+        rt: &R,
+        alloc: Global,
+        most: Weight,
+    ) -> Result<Certificate, AllocError>
+        requires search { IsSearch self.now }
+        requires deadline { IsDeadline self.now.net self.now.goal most }
+        ensures { IfOk result (ProvesAt self.now.net self.now.goal most) }
     {
-        law_table_proofs_prove();
-        let closed = &kept.closed;
-        table_proof(alloc, &kept.shown, &closed.table, closed.order.as_slice())
+        let net = self.at(alloc, most)?;
+        prove(rt, alloc, &net, self.workers)
     }
 }

@@ -19,8 +19,8 @@ use verdicts::{Verdict, decide};
 /// `HIGHEST`, for which some strategy controls the network with the bound `to - from <= most`, in
 /// whole moments, with the certificates of that; or that no strategy controls the network, that no
 /// number will do, or that every one will. So many workers, 1 to 64, test the tables and make the
-/// rows of a refutation. The gate is called with the number of `to` before the network is closed
-/// with the bound at a number, and before each row of a refutation. `Full` comes exactly if the
+/// rows of a refutation. The gate is called with the number of `to` before the network with the
+/// bound at a number is decided, and before each row of a refutation. `Full` comes exactly if the
 /// network is controllable and has 20,000 bounds, and `OutOfMemory` only for want of memory. How
 /// many numbers are tried, and how often the gate is called, no clause says.
 pub fn tightest<R: Threads + Sync, G: Gate>(

@@ -10,7 +10,7 @@ ghost use Rattle.desk_feeding.specs.Ordered.{IsInOrder};
 
 use crate::point_order::{first_where_same, put_in_order};
 use execution_model::Fed;
-use live_executor::Executor;
+use forward_executor::ForwardExecutor;
 use net_model::{LinkId, Network, PointId};
 use sensor_desk::{Desk, DeskSeat, Feeder, NoPostGate};
 use std::alloc::{AllocError, Global};
@@ -81,7 +81,7 @@ impl Feeding {
         &mut self,
         rt: &R,
         net: &Network,
-        executor: &mut Executor,
+        executor: &mut ForwardExecutor,
         moment: u64,
         listed: &[PointId],
     ) -> Fed
@@ -220,7 +220,7 @@ fn read_open(
     desk: &Desk,
     seat: &mut DeskSeat,
     net: &Network,
-    executor: &Executor,
+    executor: &ForwardExecutor,
     moment: u64,
     read: &mut Vec<PointId>,
 )
@@ -244,7 +244,7 @@ fn stands_at(
     desk: &Desk,
     seat: &mut DeskSeat,
     net: &Network,
-    executor: &Executor,
+    executor: &ForwardExecutor,
     moment: u64,
     point: PointId,
 ) -> bool

@@ -1,34 +1,29 @@
--- The closure: a network may be dispatched by it, and the executions are the earliest schedules.
-use Rattle.std.proofs.Common.{ℤ}
-use Rattle.std.proofs.lemmas.Option.{MatchOption-at_some}
-use Rattle.closure_model.specs.Keys.{key_of}
-use Rattle.closure_model.specs.Tables.{IsClosed}
-use Rattle.closure_model.specs.Derivable.{IsDerivableFor, IsLeastDerivable}
-use Rattle.closure_model.proofs.BaseLemmas.{closed_has_base}
+-- Forward closed tables of derivable edges, the closure among them: a network may be dispatched by them, and the executions are the earliest schedules.
+use Rattle.closure_model.proofs.BaseLemmas.{forward_closed_has_base}
 use Rattle.closure_model.proofs.DerivableEdges.{derivable_within}
 use Rattle.closure_model.proofs.LawProofs.{law_closure_is_closed}
-use Rattle.closure_laws.proofs.ClosureLemmas.{law_closures_dispatch_earliest}
-use Rattle.dispatch_net.specs.Laws.{ClosuresMayDispatch, ClosuresExecuteEarliest}
-use Rattle.dispatch_net.proofs.ExecutionLemmas.{law_executions_are_dispatched, order_of_edges}
+use Rattle.closure_laws.proofs.ForwardLemmas.{law_closures_are_forward_tables, law_forward_tables_dispatch_earliest}
+use Rattle.dispatch_net.specs.Laws.{ForwardTablesMayDispatch, ClosuresMayDispatch, ForwardTablesExecuteEarliest}
+use Rattle.dispatch_net.proofs.ExecutionLemmas.{law_executions_are_dispatched}
 
-pub law_closures_may_dispatch : ClosuresMayDispatch
-law_closures_may_dispatch net table order plan closure ordered =
-    let closed : IsClosed net table = (law_closure_is_closed net table closure).0 in
+pub law_forward_tables_may_dispatch : ForwardTablesMayDispatch
+law_forward_tables_may_dispatch net table order plan is ordered =
     record {
-      for_network = closure.for_network;
-      base = closed_has_base net table closed;
-      closed = closed;
-      within = λ edge has.
-          let key = key_of edge in
-          let least : IsLeastDerivable net key edge.weight = MatchOption-at_some ((weight : ℤ) → ¬ IsDerivableFor net key weight) (IsLeastDerivable net key) edge.weight has (closure.weights key) in
-          derivable_within net plan edge least.derivable;
+      for_network = is.for_network;
+      base = forward_closed_has_base net table is.closed;
+      closed = is.closed;
+      within = λ edge has. derivable_within net plan edge (is.derivable edge has);
       ordered = ordered;
     }
 
-pub law_closures_execute_earliest : ClosuresExecuteEarliest
-law_closures_execute_earliest net table order situation schedule instant closure sound ordered is_situation =
-    let dispatch = law_closures_dispatch_earliest net table order situation schedule instant closure (order_of_edges net table order closure.for_network ordered) is_situation in
-    let executed = law_executions_are_dispatched net table situation schedule closure.for_network sound in (
+pub law_closures_may_dispatch : ClosuresMayDispatch
+law_closures_may_dispatch net table order plan closure =
+    law_forward_tables_may_dispatch net table order plan (law_closures_are_forward_tables net table closure)
+
+pub law_forward_tables_execute_earliest : ForwardTablesExecuteEarliest
+law_forward_tables_execute_earliest net table order situation schedule is sound is_situation =
+    let dispatch = law_forward_tables_dispatch_earliest net table order situation schedule is is_situation in
+    let executed = law_executions_are_dispatched net table situation schedule is.forward.for_network sound in (
       λ earliest. executed.1 (dispatch.0 earliest),
       λ execution. dispatch.1 (executed.0 execution),
     )

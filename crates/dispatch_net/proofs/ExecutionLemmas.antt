@@ -21,10 +21,10 @@ use Rattle.strategy_model.specs.Situations.{moment_in}
 use Rattle.strategy_model.specs.Plays.{same_point}
 use Rattle.strategy_model.specs.Edges.{IsNegativeOrdinary}
 use Rattle.strategy_model.specs.Dispatch.{release_moment, ComesAtOnce, IsOrder}
-use Rattle.strategy_model.proofs.CompletenessLemmas.{law_closed_lists_give_strategies}
+use Rattle.strategy_model.proofs.CompletenessLemmas.{law_forward_lists_give_strategies}
 use Rattle.strategy_model.proofs.DispatchedLemmas.{law_dispatched_satisfy}
 use Rattle.strategy_model.proofs.LowerLemmas.{law_dispatched_exist}
-use Rattle.closure_laws.proofs.ClosureLemmas.{law_closed_tables_are_closed_lists}
+use Rattle.closure_laws.proofs.ForwardLemmas.{law_forward_closed_tables_are_lists, order_of_edges}
 use Rattle.dispatch_net.specs.Dispatchable.{lower_bounds_in, waits_in, no_conditions, conditions_in, dispatchable, conditions_at}
 use Rattle.dispatch_net.specs.Execution.{required_moments, IsFirstNotBefore}
 use Rattle.dispatch_net.specs.Laws.{ExecutionsAreDispatched, ExecutionsSatisfy, ExecutionsArePlayed}
@@ -145,43 +145,10 @@ law_executions_are_dispatched net table situation schedule for sound = (
   },
 )
 
--- ---- orders
-distinct_from : (ps : List PointId) → AllPairs (λ p q. p.0 ≢ q.0) ps → IsDistinct same_point ps
-unfolding IsDistinct
-distinct_from [] apart = tt
-distinct_from (p ∷ ps) apart = (later ps (λ k d inside. apart 0 (suc k) d (omega arith) (omega (arith, inside))), distinct_from ps (λ i j d less inside. apart (suc i) (suc j) d (omega (arith, less)) (omega (arith, inside))))
-  where
-    later : (qs : List PointId) → ((k : ℕ) (d : PointId) → k < length qs → p.0 ≢ (get_or qs k d).0) → AllByRecursion (λ q. same_point p q ≡ false) qs
-    later [] each = tt
-    later (q ∷ qs) each = (ne_eqb p.0 q.0 (each 0 q (omega arith)), later qs (λ k d inside. each (suc k) d (omega (arith, inside))))
-
-pub order_of_edges : (net : Plan) (table : Graph) (order : List PointId) → IsFor net table → table_orders.IsOrder table order → IsOrder net (edges_of table) order
-order_of_edges net table order for ordered =
-    record {
-      complete = λ point is_point. ordered.whole point (omega (arith, point_count net table for, is_point));
-      once = distinct_from order ordered.once;
-      descends = λ edge later earlier among negative at_later at_earlier.
-          descends edge.from edge.to edge.label edge.weight later earlier (listed_edge table edge among) negative at_later at_earlier;
-    }
-  where
-    descends : (from to : PointId) (label : Option LinkId) (w : ℤ) (later earlier : ℕ) → HasEdge table (record { from = from; to = to; label = label; weight = w })
-        → IsNegativeOrdinary (record { from = from; to = to; label = label; weight = w }) → slice_get order later ≡ Some from → slice_get order earlier ≡ Some to → earlier < later
-    descends from to (Some label) w later earlier has negative at_later at_earlier = absurd (true≢false (sym negative.0))
-    descends from to None w later earlier has negative at_later at_earlier =
-        elim (cases_lt earlier later) [
-          | inl less ↦ less
-          | inr not_less ↦
-              (let inside : earlier < length order = slice_get_within order earlier to at_earlier in
-              let stays : goes table (get_or order later from) (get_or order earlier from) ≡ false = ordered.descends later earlier from not_less inside in
-              let gone : goes table from to ≡ false = sym (λ i. goes table (get_or_from_slice_get order later from from at_later i) (get_or_from_slice_get order earlier to from at_earlier i)) ∙ stays in
-              let runs : goes table from to ≡ true = ap (λ (o : Option ℤ). option_map_or (λ (weight : ℤ). int_lt weight (pos 0)) o false) has ∙ negative.1 in
-              absurd (true≢false (sym runs ∙ gone)))
-        ]
-
--- ---- executions of a closed table
+-- ---- executions of a forward closed table
 pub law_executions_satisfy : ExecutionsSatisfy
 law_executions_satisfy net table order instant for sound closed ordered =
-    let list = law_closed_tables_are_closed_lists net table for sound closed in
+    let list = law_forward_closed_tables_are_lists net table for sound closed in
     let order_is = order_of_edges net table order for ordered in
     record {
       executed = λ situation is_situation.
@@ -193,7 +160,7 @@ law_executions_satisfy net table order instant for sound closed ordered =
 
 pub law_executions_are_played : ExecutionsArePlayed
 law_executions_are_played net table order instant for sound closed ordered =
-    let (strategy, controls, dispatches) = law_closed_lists_give_strategies net (edges_of table) order instant (law_closed_tables_are_closed_lists net table for sound closed) (order_of_edges net table order for ordered) in (
+    let (strategy, controls, dispatches) = law_forward_lists_give_strategies net (edges_of table) order instant (law_forward_closed_tables_are_lists net table for sound closed) (order_of_edges net table order for ordered) in (
       strategy,
       controls,
       λ situation is_situation.

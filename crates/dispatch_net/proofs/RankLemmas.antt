@@ -1,4 +1,4 @@
--- The lists that a closed table with an order gives descend along the order.
+-- The lists that a forward closed table with an order gives descend along the order.
 use Rattle.std.proofs.Common.{◌≡◌, ◌⊎◌, ◌<◌, ℤ, pos, List, length, None, refl, sym, subst, inl, inr, arith}
 use Rattle.std.specs.Prelude.{◌<ℤ◌, ◌-ℤ◌}
 use Rattle.std.specs.List.{Contains}
@@ -20,11 +20,11 @@ use Rattle.strategy_model.proofs.PlayLemmas.{link_sound}
 use Rattle.net_model.proofs.AppliedRuleLemmas.{negative_holds}
 use Rattle.strategy_model.proofs.KnownLemmas.{some_from_none}
 use Rattle.strategy_model.proofs.KindLemmas.{kind, ending_known}
-use Rattle.closure_laws.proofs.ClosureLemmas.{law_closed_tables_are_closed_lists}
+use Rattle.closure_laws.proofs.ForwardLemmas.{law_forward_closed_tables_are_lists, order_of_edges}
 use Rattle.dispatch_net.specs.declared.dispatch.Conditions.{Conditions}
 use Rattle.dispatch_net.specs.Dispatchable.{dispatchable, conditions_at, no_conditions}
 use Rattle.dispatch_net.proofs.ExactLemmas.{law_lists_are_exact}
-use Rattle.dispatch_net.proofs.ExecutionLemmas.{dispatchable_length, order_of_edges}
+use Rattle.dispatch_net.proofs.ExecutionLemmas.{dispatchable_length}
 use Rattle.dispatch_net.specs.Ranked.{IsRanked}
 use Rattle.dispatch_net.specs.Ranked.{IsDispatchTable}
 
@@ -55,7 +55,7 @@ module _ (net : Plan) (table : Graph) (order : List PointId) (is : IsDispatchTab
     bounds = λ point bound among. (bound_is point bound among).0;
     bounds_positive = λ point bound among. (bound_is point bound among).1;
     waits_positive = wait_is;
-    links_go_down = λ link among. let (name, declared) = listed_link net link among in descends_to_activation net (edges_of table) order is.sound (law_closed_tables_are_closed_lists net table is.for_network is.graph is.closed)
+    links_go_down = λ link among. let (name, declared) = listed_link net link among in descends_to_activation net (edges_of table) order is.sound (law_forward_closed_tables_are_lists net table is.for_network is.graph is.closed)
         (order_of_edges net table order is.for_network is.ordered) name link declared;
     links_positive = λ link among. let (name, declared) = listed_link net link among in (link_sound net is.sound name.0 link declared).positive;
   }
@@ -68,7 +68,7 @@ module _ (net : Plan) (table : Graph) (order : List PointId) (is : IsDispatchTab
                 (let exact = (law_lists_are_exact net table point is.for_network is.graph executable.0).0 executable in
                 let (above, has) = (exact.bounds bound.0 bound.1).0 among in
                 let edge : Edge = record { from = point; to = bound.0; label = None; weight = pos 0 -ℤ bound.1 } in (
-                  descends_to net (edges_of table) order is.sound (law_closed_tables_are_closed_lists net table is.for_network is.graph is.closed) (order_of_edges net table order is.for_network is.ordered) point edge
+                  descends_to net (edges_of table) order is.sound (law_forward_closed_tables_are_lists net table is.for_network is.graph is.closed) (order_of_edges net table order is.for_network is.ordered) point edge
                       (record { among = edge_listed table edge has; begins = refl; negative = negative_holds edge (is_negative_turned bound.1 above) }),
                   above,
                 ))

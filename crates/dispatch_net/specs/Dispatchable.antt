@@ -8,17 +8,17 @@ use Rattle.net_model.specs.declared.ids.PointId.{PointId}
 use Rattle.net_model.specs.declared.ids.LinkId.{LinkId}
 use Rattle.net_model.specs.declared.part.Link.{Link}
 use Rattle.closure_model.specs.Keys.{ordinary_key, labelled_key, all_points}
-use Rattle.closure_model.specs.Tables.{Graph, weight_of, IsFor, HasBase, IsClosed}
+use Rattle.closure_model.specs.Tables.{Graph, weight_of, IsFor, HasBase, IsForwardClosed}
 use Rattle.closure_model.specs.Orders.{IsOrder}
 use Rattle.closure_model.specs.ReferenceRow.{HasWeightsWithin}
 use Rattle.dispatch_net.specs.declared.dispatch.Conditions.{Conditions}
 
--- a network may be dispatched by a table in an order: the table is for the network, is closed and has the base edges, its weights lie from -M to M,
+-- a network may be dispatched by a table in an order: the table is for the network, is forward closed and has the base edges, its weights lie from -M to M,
 -- where M is the greatest size of a number of the network, and the order is one of its points
 pub record MayDispatch (net : Plan) (table : Graph) (order : List PointId) : Type 0 where
   pub for_network : IsFor net table
   pub base : HasBase net table
-  pub closed : IsClosed net table
+  pub closed : IsForwardClosed net table
   pub within : HasWeightsWithin net table
   pub ordered : IsOrder table order
 

@@ -5,14 +5,15 @@ use Rattle.net_model.specs.Network.{Plan, IsPlan, IsPoint, IsContingent, IsExecu
 use Rattle.net_model.specs.declared.ids.PointId.{PointId}
 use Rattle.net_model.specs.declared.ids.LinkId.{LinkId}
 use Rattle.net_model.specs.declared.part.Link.{Link}
-use Rattle.closure_model.specs.Tables.{Graph, HasEdge, edges_of, IsFor, IsGraph, IsClosed}
+use Rattle.closure_model.specs.Tables.{Graph, HasEdge, edges_of, IsFor, IsGraph, IsForwardClosed}
 use Rattle.closure_model.specs.Orders as table_orders
-use Rattle.closure_model.specs.Closure.{IsClosure}
+use Rattle.closure_model.specs.Closure.{IsClosure, IsForwardTable}
 use Rattle.strategy_model.specs.Situations.{IsSituation}
 use Rattle.strategy_model.specs.Plays.{play, IsInstant}
 use Rattle.strategy_model.specs.Control.{Controls, IsEarliest}
 use Rattle.strategy_model.specs.Dispatch.{IsDispatched}
 use Rattle.strategy_model.specs.declared.tree.Tree.{Tree}
+use Rattle.closure_laws.specs.Forward.{IsDispatchedForward}
 use Rattle.dispatch_net.specs.declared.dispatch.Conditions.{Conditions}
 use Rattle.dispatch_net.specs.Dispatchable.{MayDispatch, no_conditions, dispatchable, conditions_at}
 use Rattle.dispatch_net.specs.Execution.{IsExecutedBy, ExecutionSatisfies}
@@ -25,16 +26,16 @@ ExecutionsAreDispatched =
     (net : Plan) (table : Graph) (situation schedule : List ℕ) → IsFor net table → IsGraph table
     → (IsExecutedBy net (dispatchable net table) situation schedule ↔ IsDispatched net (edges_of table) situation schedule)
 
--- that of a closed table with an order is executed in every situation, and each execution satisfies the network
+-- that of a forward closed table with an order is executed in every situation, and each execution satisfies the network
 abbrev pub ExecutionsSatisfy : Type 0
 ExecutionsSatisfy =
-    (net : Plan) (table : Graph) (order : List PointId) → IsInstant net → IsFor net table → IsGraph table → IsClosed net table
+    (net : Plan) (table : Graph) (order : List PointId) → IsInstant net → IsFor net table → IsGraph table → IsForwardClosed net table
     → table_orders.IsOrder table order → ExecutionSatisfies net (dispatchable net table)
 
 -- and a strategy that controls the network plays the execution in every situation
 abbrev pub ExecutionsArePlayed : Type 0
 ExecutionsArePlayed =
-    (net : Plan) (table : Graph) (order : List PointId) → IsInstant net → IsFor net table → IsGraph table → IsClosed net table
+    (net : Plan) (table : Graph) (order : List PointId) → IsInstant net → IsFor net table → IsGraph table → IsForwardClosed net table
     → table_orders.IsOrder table order → (strategy : Tree) × Controls strategy net
     × ((situation : List ℕ) → IsSituation net situation
     → (schedule : List ℕ) × (play strategy net situation ≡ Some schedule) × IsExecutedBy net (dispatchable net table) situation schedule)
@@ -56,19 +57,25 @@ ListsAreExact =
     → (IsExecutable net point → AreExact table point (conditions_at (dispatchable net table) point))
     × (IsContingent net point → conditions_at (dispatchable net table) point ≡ no_conditions)
 
--- a network may be dispatched by its closure in an order of it
+-- a network may be dispatched by a forward closed table of its derivable edges in an order of it
+abbrev pub ForwardTablesMayDispatch : Type 0
+ForwardTablesMayDispatch =
+    (net : Plan) (table : Graph) (order : List PointId) → IsPlan net → IsForwardTable net table → table_orders.IsOrder table order
+    → MayDispatch net table order
+
+-- and so by its closure
 abbrev pub ClosuresMayDispatch : Type 0
 ClosuresMayDispatch =
     (net : Plan) (table : Graph) (order : List PointId) → IsPlan net → IsClosure net table → table_orders.IsOrder table order → MayDispatch net table order
 
--- and then a schedule is the earliest of a situation exactly if it is the execution
-abbrev pub ClosuresExecuteEarliest : Type 0
-ClosuresExecuteEarliest =
-    (net : Plan) (table : Graph) (order : List PointId) (situation schedule : List ℕ) → IsInstant net → IsClosure net table → IsGraph table
-    → table_orders.IsOrder table order → IsSituation net situation
+-- by such a table a schedule is the earliest of a situation exactly if it is the execution
+abbrev pub ForwardTablesExecuteEarliest : Type 0
+ForwardTablesExecuteEarliest =
+    (net : Plan) (table : Graph) (order : List PointId) (situation schedule : List ℕ) → IsDispatchedForward net table order → IsGraph table
+    → IsSituation net situation
     → (IsEarliest net situation schedule ↔ IsExecutedBy net (dispatchable net table) situation schedule)
 
--- by a closed table's lists without those that others imply, the same schedules are executed
+-- by a forward closed table's lists without those that others imply, the same schedules are executed
 abbrev pub SlimExecutionsAreTheSame : Type 0
 SlimExecutionsAreTheSame =
     (net : Plan) (table : Graph) (order : List PointId) (situation schedule : List ℕ) → IsDispatchTable net table order → IsSituation net situation

@@ -1,21 +1,21 @@
--- The lists of a closed table with an order descend along the order.
+-- The lists of a forward closed table with an order descend along the order.
 use Rattle.std.specs.Prelude.{ℕ, ℤ, pos, ◌<◌, ◌<ℤ◌, ◌≤ℤ◌, List}
 use Rattle.std.specs.List.{Contains}
 use Rattle.net_model.specs.Network.{Plan, IsPlan}
 use Rattle.net_model.specs.declared.ids.PointId.{PointId}
 use Rattle.net_model.specs.declared.ids.LinkId.{LinkId}
 use Rattle.net_model.specs.declared.part.Link.{Link}
-use Rattle.closure_model.specs.Tables.{Graph, IsFor, IsGraph, IsClosed}
+use Rattle.closure_model.specs.Tables.{Graph, IsFor, IsGraph, IsForwardClosed}
 use Rattle.closure_model.specs.Orders.{IsOrder}
 use Rattle.dispatch_net.specs.declared.dispatch.Conditions.{Conditions}
 use Rattle.dispatch_net.specs.Dispatchable.{conditions_at}
 
--- a sound closed table of a network with an order
+-- a sound forward closed table of a network with an order
 pub record IsDispatchTable (net : Plan) (table : Graph) (order : List PointId) : Type 0 where
   pub sound : IsPlan net
   pub for_network : IsFor net table
   pub graph : IsGraph table
-  pub closed : IsClosed net table
+  pub closed : IsForwardClosed net table
   pub ordered : IsOrder table order
 
 -- lower bounds and links descend along a rank of the points, and all their numbers and those of waits are positive

@@ -30,11 +30,11 @@ pub struct Conditions {
     pub waits: Items<(LinkId, Weight)>,
 }
 
-/// The dispatchable network of a closed table (Morris, Muscettola and Vidal 2001, in this project's
-/// form): the lower bounds and waits by which each executable point is executed, and the links of
-/// its network. Contracts see it as the links, the lists that were made from the table, one for
-/// each point, and those that are kept: all of them, or only those that no others imply. Only what
-/// is kept is stored; what was made is known to clauses alone.
+/// The dispatchable network of a forward closed table (Morris, Muscettola and Vidal 2001, in this
+/// project's form): the lower bounds and waits by which each executable point is executed, and the
+/// links of its network. Contracts see it as the links, the lists that were made from the table,
+/// one for each point, and those that are kept: all of them, or only those that no others imply.
+/// Only what is kept is stored; what was made is known to clauses alone.
 #[derive(Drop)]
 #[derive_where(Debug)]
 pub struct Dispatch {
@@ -63,11 +63,11 @@ impl Model for Dispatch {
 }
 
 impl Dispatch {
-    /// The dispatchable network of a closed table that has an order, of a network without a delay:
-    /// by its lower bounds and waits the network is executed in every situation, and each execution
-    /// satisfies it. One with a delay is dispatched by its shown form. That a table is sound, as
-    /// `executed` requires, is a clause of `Table::weight`. `slim` follows the order, in capacity
-    /// that is reserved here. `AllocError` comes only if memory is refused.
+    /// The dispatchable network of a forward closed table that has an order, of a network without a
+    /// delay: by its lower bounds and waits the network is executed in every situation, and each
+    /// execution satisfies it. One with a delay is dispatched by its shown form. That a table is
+    /// sound, as `executed` requires, is a clause of `Table::weight`. `slim` follows the order, in
+    /// capacity that is reserved here. `AllocError` comes only if memory is refused.
     pub fn of(
         alloc: Global,
         net: &Network,

@@ -3,7 +3,8 @@
 
 ghost use Rattle.dispatch_net.specs.Laws.{ListsAreExact, ExecutionsAreDispatched};
 ghost use Rattle.dispatch_net.specs.Laws.{ExecutionsSatisfy, ExecutionsArePlayed};
-ghost use Rattle.dispatch_net.specs.Laws.{ClosuresMayDispatch, ClosuresExecuteEarliest};
+ghost use Rattle.dispatch_net.specs.Laws.{ForwardTablesMayDispatch, ClosuresMayDispatch};
+ghost use Rattle.dispatch_net.specs.Laws.{ForwardTablesExecuteEarliest};
 ghost use Rattle.dispatch_net.specs.Laws.{SlimExecutionsAreTheSame, SlimStaysSlim};
 
 /// The lower bounds and waits of an executable point are exactly the negative edges that the table
@@ -18,8 +19,8 @@ pub fn law_executions_are_dispatched()
     ensures { ExecutionsAreDispatched }
 {}
 
-/// If reaction is instantaneous, the dispatchable network of a closed table with an order has an
-/// execution in every situation, and each satisfies the network.
+/// If reaction is instantaneous, the dispatchable network of a forward closed table with an order
+/// has an execution in every situation, and each satisfies the network.
 pub fn law_executions_satisfy()
     ensures { ExecutionsSatisfy }
 {}
@@ -30,18 +31,23 @@ pub fn law_executions_are_played()
     ensures { ExecutionsArePlayed }
 {}
 
+/// A network may be dispatched by a forward closed table of its derivable edges, in an order of it.
+pub fn law_forward_tables_may_dispatch()
+    ensures { ForwardTablesMayDispatch }
+{}
+
 /// A network may be dispatched by its closure, in an order of it.
 pub fn law_closures_may_dispatch()
     ensures { ClosuresMayDispatch }
 {}
 
-/// If reaction is instantaneous, and a network is dispatched by its closure, a schedule is the
-/// earliest of a situation exactly if it is the execution.
-pub fn law_closures_execute_earliest()
-    ensures { ClosuresExecuteEarliest }
+/// If reaction is instantaneous, and a network is dispatched by a forward closed table of its
+/// derivable edges, a schedule is the earliest of a situation exactly if it is the execution.
+pub fn law_forward_tables_execute_earliest()
+    ensures { ForwardTablesExecuteEarliest }
 {}
 
-/// The executions by the lists of a closed table with an order, without the lower bounds and waits
+/// The executions by the lists of a forward closed table with an order, without the lower bounds and waits
 /// that others imply, are the executions by the whole lists.
 pub fn law_slim_executions_are_the_same()
     ensures { SlimExecutionsAreTheSame }

@@ -15,7 +15,8 @@ use Rattle.net_model.specs.Moments.{Moments, moment_of}
 use Rattle.execution_model.specs.Execution.{time_runs}
 use Rattle.net_model.specs.Limits.{most_moment}
 use Rattle.execution_model.specs.Feeds.{Execution, started, next_moment, taken, after_feed, first_open, IsWhole}
-use Rattle.execution_model.specs.Laws.{setting_of, IsDispatchedByClosure, going_on, ended, AreWithinLimit, FaithfulStreamsAreTaken, DoneWhereNoneIsOpen, EndsAreEarliest}
+use Rattle.canonical_closure.specs.CanonicalClosure.{IsDispatchedByClosure}
+use Rattle.execution_model.specs.Laws.{setting_of, going_on, ended, AreWithinLimit, FaithfulStreamsAreTaken, DoneWhereNoneIsOpen, EndsAreEarliest}
 use Rattle.execution_model.specs.ShownStreams.{ActsAreShown, StreamsAreShown}
 use Rattle.execution_model.specs.Streams.{Listing, Shows, IsFaithful}
 use Rattle.execution_model.specs.Timely.{fed_all}
@@ -68,7 +69,7 @@ module _ (laws : ExecutionLaws) (net : Plan) (table : Graph) (order : List Point
         let split : before ++ listing ∷ others ≡ (before ++ listing ∷ []) ++ others = sym (append_assoc before (listing ∷ []) others) in
         let on : Shows net (going_on ((before ++ listing ∷ []) ++ others)) schedule = subst (λ (ls : List Listing). Shows net (going_on ls) schedule) split shows in
         let after : Execution = after_feed execution listing.moment moments in
-        let acts = laws.acts net table order before listing execution moments situation schedule by fed takes earliest (shows_first net schedule (before ++ listing ∷ []) others on) in
+        let acts = laws.acts net table order before listing execution moments situation schedule by.dispatched fed takes earliest (shows_first net schedule (before ++ listing ∷ []) others on) in
         let at = fed_moment before (setting_of net table) execution fed in
         let here : after.acts ≡ scheduled net schedule (moment_after_listings before) (suc listing.moment - moment_after_listings before) =
         subst (λ (m : ℕ). after.acts ≡ scheduled net schedule m (suc listing.moment - m)) at acts in
@@ -87,19 +88,19 @@ module _ (laws : ExecutionLaws) (net : Plan) (table : Graph) (order : List Point
       going = done_shows net schedule listings shows
 
       run : IsRun net table schedule
-      run = run_of net table order by situation schedule earliest
+      run = run_of net table order by.dispatched situation schedule earliest
 
       keeps : KeepsTo net table schedule final
-      keeps = fed_keeps net table order by listings final fed schedule run going
+      keeps = fed_keeps net table order by.dispatched listings final fed schedule run going
 
       there : next_moment final ≡ moment_after_listings listings
       there = fed_moment listings (setting_of net table) final fed
 
       moments_are : time_runs final.setting final.moments (next_moment final) whole.count ≡ map Some schedule
-      moments_are = sym (ap (λ (e : Execution). e.moments) whole.after_it) ∙ laws.ends net table order listings final after situation schedule by fed whole earliest shows
+      moments_are = sym (ap (λ (e : Execution). e.moments) whole.after_it) ∙ laws.ends net table order listings final after situation schedule by.dispatched fed whole earliest shows
 
       long : length final.moments ≡ length final.setting.dispatch
-      long = keeps.cut.long ∙ sym (ap (λ setting. length setting.dispatch) keeps.setting ∙ dispatchable_length net table by.closure.for_network)
+      long = keeps.cut.long ∙ sym (ap (λ setting. length setting.dispatch) keeps.setting ∙ dispatchable_length net table by.dispatched.forward.for_network)
 
       come_before : (k d : ℕ) → k < length schedule → get_or schedule k d < moment_after_listings listings + whole.count
       come_before k d inside =
@@ -118,15 +119,15 @@ module _ (laws : ExecutionLaws) (net : Plan) (table : Graph) (order : List Point
       all_come = come_before
 
       pub acts_left : after.acts ≡ scheduled net schedule (moment_after_listings listings) whole.count
-      acts_left = laws.last net table order listings final after situation schedule by fed whole earliest shows ∙ ap (λ (m : ℕ). scheduled net schedule m whole.count) there
+      acts_left = laws.last net table order listings final after situation schedule by.dispatched fed whole earliest shows ∙ ap (λ (m : ℕ). scheduled net schedule m whole.count) there
 
   -- ---- what is decided
   -- a faithful stream that continues is taken
   pub faithful_fed : (listings : List Listing) → AreWithinLimit listings → IsFaithful net (going_on listings) → (final : Execution) × (fed_all start listings ≡ Ok final)
-  faithful_fed listings within = (laws.taken net table order listings by within).0.0
+  faithful_fed listings within = (laws.taken net table order listings by.dispatched within).0.0
 
   pub fed_faithful : (listings : List Listing) (final : Execution) → AreWithinLimit listings → fed_all start listings ≡ Ok final → IsFaithful net (going_on listings)
-  fed_faithful listings final within fed = (laws.taken net table order listings by within).0.1 (final, fed)
+  fed_faithful listings final within fed = (laws.taken net table order listings by.dispatched within).0.1 (final, fed)
 
   -- with one more listing
   within_more : (listings : List Listing) (moment : ℕ) (points : List PointId) → AreWithinLimit listings → moment ≤ most_moment
@@ -153,10 +154,10 @@ module _ (laws : ExecutionLaws) (net : Plan) (table : Graph) (order : List Point
       absurd (cc (stops, all.1))
 
   pub closed_faithful : (listings : List Listing) (final : Execution) → fed_all start listings ≡ Ok final → first_open final ≡ None → IsFaithful net (ended listings)
-  closed_faithful listings final fed = (laws.done net table order listings final by fed).1
+  closed_faithful listings final fed = (laws.done net table order listings final by.dispatched fed).1
 
   pub faithful_closed : (listings : List Listing) (final : Execution) → fed_all start listings ≡ Ok final → IsFaithful net (ended listings) → first_open final ≡ None
-  faithful_closed listings final fed = (laws.done net table order listings final by fed).0
+  faithful_closed listings final fed = (laws.done net table order listings final by.dispatched fed).0
 
   -- a run that ends by a refused event ends at a line that states what no faithful stream does
   pub unfaithful_there : (completion_order : CompletionOrder) (listings : List Listing) (final : Execution) (reported : EventLine) (line : List ℕ) (end : End) → AreWithinLimit listings → ReportsEvent completion_order net reported line

@@ -24,7 +24,8 @@ use Rattle.net_model.specs.Moments.{Moments, moment_of}
 use Rattle.execution_model.specs.Execution.{Setting, has_come, has_gone_by, meets_bound, meets_wait_for, meets_wait, meets, is_due}
 use Rattle.execution_model.specs.Execution.{acts_at, acted, time_runs, acts_while}
 use Rattle.execution_model.specs.Feeds.{Execution, started, next_moment, taken, after_feed, IsDueAnswer, IsNextDue}
-use Rattle.execution_model.specs.Laws.{setting_of, IsDispatchedByClosure, going_on}
+use Rattle.canonical_closure.specs.CanonicalClosure.{IsDispatchedByClosure}
+use Rattle.execution_model.specs.Laws.{setting_of, going_on}
 use Rattle.execution_model.specs.Streams.{Listing, Shows, last_moment}
 use Rattle.execution_model.specs.Timely.{fed_all, with_completed}
 use Rattle.execution_model.specs.declared.feed_answers.Why.{Why}
@@ -173,21 +174,21 @@ module _ (net : Plan) (table : Graph) (order : List PointId) (by : IsDispatchedB
     listing = record { moment = moment; points = points }
 
     run : IsRun net table schedule
-    run = run_of net table order by situation schedule earliest
+    run = run_of net table order by.dispatched situation schedule earliest
 
     going : Shows net (going_on listings) schedule
     going = shows_first net schedule listings (listing ∷ []) shows
 
     keeps : KeepsTo net table schedule final
-    keeps = fed_keeps net table order by listings final fed schedule run going
+    keeps = fed_keeps net table order by.dispatched listings final fed schedule run going
 
     is_next : IsNext net schedule (next_moment final) listing
     is_next =
-        subst (λ (n : ℕ). IsNext net schedule n listing) (sym (fed_end net table order by listings final fed schedule run going))
+        subst (λ (n : ℕ). IsNext net schedule n listing) (sym (fed_end net table order by.dispatched listings final fed schedule run going))
         (next_last net schedule 0 listings listing (shows_next net schedule (listings ++ listing ∷ []) shows))
 
     long : length final.moments ≡ length (setting_of net table).dispatch
-    long = keeps.cut.long ∙ sym (dispatchable_length net table by.closure.for_network)
+    long = keeps.cut.long ∙ sym (dispatchable_length net table by.dispatched.forward.for_network)
 
     -- if it is the first moment that brings an act, the schedule executes a point there
     executes_one : ((k : ℕ) → next_moment final ≤ k → k < moment → acts_at final.setting final.moments k ≡ []) → acts_at final.setting final.moments moment ≢ []

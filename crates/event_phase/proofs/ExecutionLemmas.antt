@@ -16,7 +16,8 @@ use Rattle.event_stream.specs.EventText.{EventLine, blank, completed, done}
 use Rattle.execution_model.specs.Acts.{scheduled}
 use Rattle.net_model.specs.Moments.{Moments}
 use Rattle.execution_model.specs.Feeds.{Execution, started, taken, first_open, IsDueAnswer}
-use Rattle.execution_model.specs.Laws.{setting_of, IsDispatchedByClosure, going_on, ended, AreWithinLimit}
+use Rattle.canonical_closure.specs.CanonicalClosure.{IsDispatchedByClosure}
+use Rattle.execution_model.specs.Laws.{setting_of, going_on, ended, AreWithinLimit}
 use Rattle.execution_model.specs.ShownStreams.{FitsAsShown}
 use Rattle.execution_model.specs.Streams.{Listing, IsFaithful, FitsSituation}
 use Rattle.execution_model.specs.Timely.{fed_all}

@@ -8,7 +8,8 @@ use Rattle.closure_model.specs.Tables.{Graph}
 use Rattle.strategy_model.specs.Control.{IsEarliest}
 use Rattle.execution_model.specs.Acts.{scheduled_at, scheduled}
 use Rattle.execution_model.specs.Feeds.{Execution, started, IsDueAnswer}
-use Rattle.execution_model.specs.Laws.{setting_of, IsDispatchedByClosure, going_on}
+use Rattle.canonical_closure.specs.CanonicalClosure.{IsDispatchedByClosure}
+use Rattle.execution_model.specs.Laws.{setting_of, going_on}
 use Rattle.execution_model.specs.ShownStreams.{ListsAsShown}
 use Rattle.execution_model.specs.Streams.{Listing, Shows, last_moment}
 use Rattle.execution_model.specs.Timely.{fed_all}

@@ -4,7 +4,8 @@ use Rattle.net_model.specs.Network.{Plan}
 use Rattle.net_model.specs.declared.ids.PointId.{PointId}
 use Rattle.closure_model.specs.Tables.{Graph}
 use Rattle.execution_model.specs.Feeds.{Execution, started, IsDueAnswer}
-use Rattle.execution_model.specs.Laws.{setting_of, IsDispatchedByClosure}
+use Rattle.canonical_closure.specs.CanonicalClosure.{IsDispatchedByClosure}
+use Rattle.execution_model.specs.Laws.{setting_of}
 use Rattle.command_engine.specs.declared.machines.Flow.{Flow}
 use Rattle.command_engine.specs.declared.machines.Flow.TheVariants.{Continue}
 use Rattle.common_answers.specs.VerdictLines.{controllable_line}

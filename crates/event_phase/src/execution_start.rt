@@ -2,7 +2,7 @@
 
 ghost use Rattle.std.specs.Prelude.{◌≡◌, ◌≤◌, [], IfOk, OnOk, IfSome};
 ghost use Rattle.desk_feeding.specs.Fed.{most_feeders};
-ghost use Rattle.dispatch_net.specs.OfClosure.{IsDispatchOfClosure};
+ghost use Rattle.forward_executor.specs.ForwardExecutions.{IsForwardDispatch};
 ghost use Rattle.command_engine.specs.Machine.{HasCapacity};
 ghost use Rattle.event_phase.specs.ExecutionStart.{BeginsExecution, BeginsExecutionBy, PutsStart};
 ghost use Rattle.event_phase.specs.EventPhase.{executing_machine, answer_capacity};
@@ -10,14 +10,16 @@ ghost use Rattle.event_phase.specs.CompletionOrders.{completion_order_where};
 
 use crate::event_answers::put_due;
 use crate::phase::Executing;
+use canonical_closure::laws::law_controllable_have_canonical_closures;
+use closure_laws::laws::law_ordered_forward_tables_are_controllable;
 use command_engine::{Answer, Flow, Word};
 use dispatch_net::Dispatch;
 use net_model::Network;
 use std::alloc::{AllocError, Global};
 
-/// Starts the execution of a controllable network without a delay by the dispatchable network of
-/// its closure, and prints that the network is controllable, and the first due moment. `AllocError`
-/// comes only if memory is refused.
+/// Starts the execution of a controllable network without a delay by the dispatchable network of a
+/// forward closed table, such as its closure, and prints that the network is controllable, and the
+/// first due moment. `AllocError` comes only if memory is refused.
 pub fn begin_dispatched(
     alloc: Global,
     answer: &mut Answer,
@@ -25,8 +27,7 @@ pub fn begin_dispatched(
     dispatch: Dispatch,
 ) -> Result<Flow<Executing>, AllocError>
     requires empty { answer.old.text ≡ [] }
-    requires dispatch { IsDispatchOfClosure net dispatch }
-    requires no_delay { net.delay ≡ 0 }
+    requires dispatch { IsForwardDispatch net dispatch }
     ensures begins { IfOk result (BeginsExecution net answer.new.text) }
     ensures spare_capacity { IfOk result
         (λ flow. HasCapacity executing_machine flow answer.new.capacity) }
@@ -46,15 +47,15 @@ pub fn begin_with_feeders(
     feeders: Option<u32>,
 ) -> Result<Flow<Executing>, AllocError>
     requires empty { answer.old.text ≡ [] }
-    requires dispatch { IsDispatchOfClosure net dispatch }
-    requires no_delay { net.delay ≡ 0 }
+    requires dispatch { IsForwardDispatch net dispatch }
     requires feeders { IfSome feeders (λ count. (1 ≤ count) × (count ≤ most_feeders)) }
     ensures begins { IfOk result (BeginsExecutionBy
         (completion_order_where feeders) net answer.new.text) }
     ensures spare_capacity { IfOk result
         (λ flow. HasCapacity executing_machine flow answer.new.capacity) }
 {
-    net.sound();
+    law_controllable_have_canonical_closures();
+    law_ordered_forward_tables_are_controllable();
     let state = Executing::start(alloc, net, dispatch.slim(), feeders)?;
     put_start(answer, &state)?;
     Ok(Flow::Continue(state))

@@ -6,7 +6,9 @@ ghost use Rattle.net_model.specs.Limits.{most_moment};
 ghost use Rattle.net_model.specs.Network.{IsPoint};
 ghost use Rattle.desk_feeding.specs.Fed.{most_feeders};
 ghost use Rattle.execution_model.specs.Feeds.{started, IsDueAnswer};
-ghost use Rattle.live_executor.specs.Sound.{IsDispatchOf};
+ghost use Rattle.canonical_closure.specs.CanonicalClosure.{canonical_closure};
+ghost use Rattle.execution_model.specs.Laws.{setting_of};
+ghost use Rattle.forward_executor.specs.ForwardExecutions.{IsForwardDispatch};
 ghost use Rattle.event_stream.specs.EventText.{completed, done, said, HasPoints};
 ghost use Rattle.command_engine.specs.declared.machines.Flow.TheVariants.{Finish};
 ghost use Rattle.event_phase.specs.EventPhase.{executing_machine, answer_capacity, AnswersEnd};
@@ -25,7 +27,7 @@ use desk_feeding::Feeding;
 use dispatch_net::Dispatch;
 use event_stream::{Event, EventReader};
 use execution_model::{Act, Fed, Finished};
-use live_executor::Executor;
+use forward_executor::ForwardExecutor;
 use net_model::{FormatKind, Network};
 use plan_port::MOST_LINE;
 use std::alloc::{AllocError, Global};
@@ -48,7 +50,7 @@ pub struct Executing {
 #[derive(Drop)]
 struct ExecutingParts {
     net: Network,
-    executor: Executor,
+    executor: ForwardExecutor,
     events: EventReader,
     feeding: Option<Feeding>,
 }
@@ -64,23 +66,22 @@ impl Model for Executing {
 }
 
 impl Executing {
-    /// Starts the execution of a network on a dispatchable network of it: no point has come, and no
-    /// feed was made. If there is a number of feeders, it is fed from a desk. `AllocError` comes
-    /// only if memory is refused.
+    /// Starts the execution of a network on the dispatchable network of a forward closed table of
+    /// it: no point has come, and no feed was made. If there is a number of feeders, it is fed from
+    /// a desk. `AllocError` comes only if memory is refused.
     pub(crate) fn start(
         alloc: Global,
         net: Network,
         dispatch: Dispatch,
         feeders: Option<u32>,
     ) -> Result<Executing, AllocError>
-        requires dispatch { IsDispatchOf net dispatch }
-        requires points { length dispatch.made ≡ length net.points }
+        requires dispatch { IsForwardDispatch net dispatch }
         requires feeders { IfSome feeders (λ count. (1 ≤ count) × (count ≤ most_feeders)) }
         ensures { IfOk result (λ state. state ≡ event_run_by (completion_order_where feeders) net
-            (started (record { links = net.links; dispatch = dispatch.made }))) }
+            (started (setting_of net (canonical_closure net)))) }
     {
         let feeding = feeding_by(alloc, &net, feeders)?;
-        let executor = Executor::start(alloc, &net, dispatch)?;
+        let executor = ForwardExecutor::start(alloc, &net, dispatch)?;
         let events = EventReader::new(alloc)?;
         let parts = ExecutingParts {
             net,

@@ -3,7 +3,7 @@
 ghost use Rattle.std.specs.Prelude.{◌≡◌, IfOk};
 ghost use Rattle.strategy_model.specs.Situations.{IsSituation};
 ghost use Rattle.dispatch_net.specs.OfClosure.{IsDispatchOfClosure};
-ghost use Rattle.situation_player.specs.PlayedDays.{IsStartedByClosure};
+ghost use Rattle.situation_player.specs.PlayedDays.{IsStartedForward};
 
 use dispatch_net::Dispatch;
 use example_plans::network;
@@ -101,7 +101,7 @@ fn day(alloc: Global, net: &Network, dispatch: Dispatch, which: &str) -> Result<
 fn start(alloc: Global, net: &Network, dispatch: Dispatch) -> Result<Executor, Fail>
     requires of { IsDispatchOfClosure net.now dispatch }
     requires no_delay { net.now.delay ≡ 0 }
-    ensures { IfOk result (IsStartedByClosure net.now) }
+    ensures { IfOk result (IsStartedForward net.now) }
 {
     net.sound();
     Ok(Executor::start(alloc, net, dispatch.slim())?)

@@ -121,7 +121,7 @@ module _ (net : Plan) (table : Graph) (schedule : List ℕ) (run : IsRun net tab
 
   module _ (moments : Moments) (t : ℕ) (seen : IsSeen net schedule moments t) where
     -- a moment so far is that of the schedule
-    seen_value : (point : PointId) (m : ℕ) → IsPoint net point → moment_of moments point ≡ Some m → (m ≡ moment_in schedule point) × (m ≤ t)
+    pub seen_value : (point : PointId) (m : ℕ) → IsPoint net point → moment_of moments point ≡ Some m → (m ≡ moment_in schedule point) × (m ≤ t)
     seen_value point m within found =
         elim (cases_order (moment_in schedule point) t) [
           | inl same ↦ (elim (kind net point within) [

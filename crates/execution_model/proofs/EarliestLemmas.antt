@@ -12,6 +12,7 @@ use Rattle.net_model.specs.declared.ids.PointId.{PointId}
 use Rattle.closure_model.specs.Tables.{Graph}
 use Rattle.strategy_model.specs.Control.{IsEarliest}
 use Rattle.strategy_model.specs.Situations.{moment_in}
+use Rattle.closure_laws.specs.Forward.{IsDispatchedForward}
 use Rattle.dispatch_net.proofs.ExecutionLemmas.{dispatchable_length}
 use Rattle.net_model.specs.Moments.{Moments, moment_of}
 use Rattle.execution_model.specs.Execution.{Setting, time_runs, acts_while}
@@ -19,7 +20,7 @@ use Rattle.net_model.specs.Limits.{most_moment}
 use Rattle.execution_model.specs.Feeds.{Execution, started, next_moment, taken, after_feed, first_open, IsWhole, IsFed, IsFinished}
 use Rattle.execution_model.specs.Streams.{Listing, Stream, Shows, IsFaithful, last_moment, cut_at, fixed_by}
 use Rattle.execution_model.specs.Timely.{fed_all}
-use Rattle.execution_model.specs.Laws.{setting_of, IsDispatchedByClosure, IsExecutionOf, AreWithinLimit, going_on, ended}
+use Rattle.execution_model.specs.Laws.{setting_of, IsExecutionOf, AreWithinLimit, going_on, ended}
 use Rattle.execution_model.specs.Acts.{scheduled, ActsAreEarliest, LastActsAreEarliest}
 use Rattle.execution_model.specs.Earliest.{NoneSooner, IsFedEarliest, IsEndedEarliest, FeedsAreEarliest, FinishesAreEarliest}
 use Rattle.execution_model.specs.declared.feed_answers.Why.{Why}
@@ -38,7 +39,7 @@ use Rattle.execution_model.proofs.LawLemmas.{run_of, fed_keeps, fed_end, done_ke
 
 -- ---- lists of feeds
 -- feeds in two parts
-fed_append : (first second : List Listing) (execution middle : Execution) → fed_all execution first ≡ Ok middle → fed_all execution (first ++ second) ≡ fed_all middle second
+pub fed_append : (first second : List Listing) (execution middle : Execution) → fed_all execution first ≡ Ok middle → fed_all execution (first ++ second) ≡ fed_all middle second
 fed_append [] second execution middle fed = ap (λ (e : Execution). fed_all e second) (same_ok execution middle fed)
 fed_append (listing ∷ others) second execution middle fed =
     by (λ next went. fed_append others second next middle went) (taken execution listing.moment listing.points) fed
@@ -73,10 +74,10 @@ pub refused_after : (listings : List Listing) (execution : Execution) → (after
 refused_after [] execution = refl
 refused_after (listing ∷ others) execution = refused_after others (after_listing execution listing)
 
-none_refused : (net : Plan) (table : Graph) (order : List PointId) (listings : List Listing) (execution : Execution) → IsDispatchedByClosure net table order
+none_refused : (net : Plan) (table : Graph) (order : List PointId) (listings : List Listing) (execution : Execution) → IsDispatchedForward net table order
     → fed_all (started (setting_of net table)) listings ≡ Ok execution → execution.refused ≡ None
 none_refused net table order listings execution by fed =
-    let leads = (fed_in_time net listings (started (setting_of net table)) execution (started_of net table by.instant by.closure.for_network) fed).1 in
+    let leads = (fed_in_time net listings (started (setting_of net table)) execution (started_of net table by.instant by.forward.for_network) fed).1 in
     ap (λ (e : Execution). e.refused) (sym leads) ∙ refused_after listings (started (setting_of net table))
 
 -- what comes next, in two parts
@@ -126,10 +127,10 @@ none_sooner net stream situation schedule moments earliest are other played cont
     omega (arith, is, sooner)
 
 -- ---- the acts of a feed
-module _ (net : Plan) (table : Graph) (order : List PointId) (by : IsDispatchedByClosure net table order) (listings : List Listing) (listing : Listing) (execution : Execution)
+module _ (net : Plan) (table : Graph) (order : List PointId) (by : IsDispatchedForward net table order) (listings : List Listing) (listing : Listing) (execution : Execution)
     (fed : fed_all (started (setting_of net table)) listings ≡ Ok execution) (situation schedule : List ℕ) (earliest : IsEarliest net situation schedule)
     (shows : Shows net (going_on (listings ++ listing ∷ [])) schedule) where
-  run : IsRun net table schedule
+  pub run : IsRun net table schedule
   run = run_of net table order by situation schedule earliest
 
   parted : AreNext net schedule 0 listings × IsNext net schedule (end_of 0 listings) listing
@@ -138,17 +139,17 @@ module _ (net : Plan) (table : Graph) (order : List PointId) (by : IsDispatchedB
   shows_before : Shows net (going_on listings) schedule
   shows_before = next_shows net schedule listings parted.0
 
-  keeps : KeepsTo net table schedule execution
+  pub keeps : KeepsTo net table schedule execution
   keeps = fed_keeps net table order by listings execution fed schedule run shows_before
 
-  is_next : IsNext net schedule (next_moment execution) listing
+  pub is_next : IsNext net schedule (next_moment execution) listing
   is_next = subst (λ (n : ℕ). IsNext net schedule n listing) (sym (fed_end net table order by listings execution fed schedule run shows_before)) parted.1
 
-  is_of : IsExecutionOf net execution
+  pub is_of : IsExecutionOf net execution
   is_of = record {
     instant = by.instant;
     links = ap (λ (setting : Setting). setting.links) keeps.setting;
-    dispatch = ap (λ (setting : Setting). length setting.dispatch) keeps.setting ∙ dispatchable_length net table by.closure.for_network;
+    dispatch = ap (λ (setting : Setting). length setting.dispatch) keeps.setting ∙ dispatchable_length net table by.forward.for_network;
     moments = keeps.cut.long;
   }
 
@@ -163,7 +164,7 @@ law_acts_are_earliest net table order listings listing execution moments situati
     acts_of_feed net table order by listings listing execution fed situation schedule earliest shows moments took
 
 -- ---- the acts of the end
-module _ (net : Plan) (table : Graph) (order : List PointId) (by : IsDispatchedByClosure net table order) (listings : List Listing) (execution after : Execution)
+module _ (net : Plan) (table : Graph) (order : List PointId) (by : IsDispatchedForward net table order) (listings : List Listing) (execution after : Execution)
     (fed : fed_all (started (setting_of net table)) listings ≡ Ok execution) (whole : IsWhole execution after) (situation schedule : List ℕ)
     (earliest : IsEarliest net situation schedule) (shows : Shows net (ended listings) schedule) where
   whole_run : IsRun net table schedule
@@ -212,7 +213,7 @@ module _ (old : Execution) (moment : ℕ) (listed : List PointId) (answer : Fed)
   acts_not_refused : (cause : Why) → fed.Acts ≡ fed.Refused cause → ⊥
   acts_not_refused cause is = absurd (cc)
 
-  module _ (is : IsFed old moment listed answer after) (net : Plan) (table : Graph) (order : List PointId) (listings : List Listing) (by : IsDispatchedByClosure net table order)
+  module _ (is : IsFed old moment listed answer after) (net : Plan) (table : Graph) (order : List PointId) (listings : List Listing) (by : IsDispatchedForward net table order)
       (went : fed_all (started (setting_of net table)) listings ≡ Ok old) (within : moment ≤ most_moment) where
     abbrev listing : Listing
     listing = record { moment = moment; points = listed }
@@ -269,7 +270,7 @@ module _ (old : Execution) (answer : Finished) (after : Execution) where
   complete_not_unfinished : (point : PointId) → finished.Complete ≡ finished.Unfinished point → ⊥
   complete_not_unfinished point is = absurd (cc)
 
-  module _ (is : IsFinished old answer after) (net : Plan) (table : Graph) (order : List PointId) (listings : List Listing) (by : IsDispatchedByClosure net table order)
+  module _ (is : IsFinished old answer after) (net : Plan) (table : Graph) (order : List PointId) (listings : List Listing) (by : IsDispatchedForward net table order)
       (went : fed_all (started (setting_of net table)) listings ≡ Ok old) where
     by_open : (o : Option PointId) → first_open old ≡ o → EndedBy o → IsEndedEarliest net (ended listings) old answer after
     by_open (Some point) found (unfinished, same) = record {

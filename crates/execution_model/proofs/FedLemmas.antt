@@ -85,6 +85,16 @@ taken_within execution moment listed moments is = by (refusal_of_moment executio
     by None none is = not_refused execution moment none
     by (Some cause) refused is = absurd (err_ok moments cause is)
 
+-- feeds stay by the same links and lists
+pub fed_setting : (listings : List Listing) (execution after : Execution) → fed_all execution listings ≡ Ok after → after.setting ≡ execution.setting
+fed_setting [] execution after fed = ap (λ (e : Execution). e.setting) (sym (same_ok execution after fed))
+fed_setting (listing ∷ others) execution after fed = by (taken execution listing.moment listing.points) fed (λ next went. fed_setting others next after went)
+  where
+    by : (r : Result Moments Why) → fed_on execution listing others r ≡ Ok after → ((next : Execution) → fed_all next others ≡ Ok after → after.setting ≡ next.setting)
+        → after.setting ≡ execution.setting
+    by (Ok moments) went rest = rest (after_feed execution listing.moment moments) went
+    by (Err cause) went rest = absurd (err_ok after cause went)
+
 module _ (net : Plan) where
   -- feeds that are all taken are in time, and lead to one execution
   pub fed_in_time : (listings : List Listing) (execution after : Execution) → IsExecutionOf net execution → fed_all execution listings ≡ Ok after

@@ -1,6 +1,6 @@
--- The closure of a network is a sound table.
-use Rattle.std.proofs.Common.{◌<◌, ◌≤◌, ℤ, length, Option, Some, None, ap, sym, subst, ◌∙◌, arith}
-use Rattle.std.specs.Prelude.{MatchOption, unsigned_abs}
+-- A forward closed table of derivable edges of a network is a sound table.
+use Rattle.std.proofs.Common.{◌<◌, ◌≤◌, length, Option, Some, None, ap, sym, subst, ◌∙◌, arith}
+use Rattle.std.specs.Prelude.{unsigned_abs}
 use Rattle.std.specs.List.{All, Contains}
 use Rattle.std.specs.Option.{option_map}
 use Rattle.std.proofs.lemmas.List.{length-map}
@@ -14,24 +14,17 @@ use Rattle.net_model.specs.declared.ids.PointId.{PointId}
 use Rattle.net_model.specs.declared.part.Edge.{Edge}
 use Rattle.net_model.specs.declared.part.Link.{Link}
 use Rattle.net_model.proofs.NetworkLemmas.{greatest-le}
-use Rattle.closure_model.specs.Closure.{IsClosure}
-use Rattle.closure_model.specs.Derivable.{IsDerivable, IsDerivableFor, IsLeastDerivable}
+use Rattle.closure_model.specs.Closure.{IsForwardTable}
 use Rattle.closure_model.specs.Keys.{Shape, IsKey, IsLabelAt, key_of, shape_of}
 use Rattle.closure_model.specs.Tables.{Graph, HasEdge, IsGraph}
 use Rattle.closure_model.proofs.BaseLemmas.{all_contained}
 use Rattle.closure_model.proofs.LawProofs.{law_derivable_are_edges, law_derivable_are_bounded}
 use Rattle.closure_model.proofs.Lists.{Contains-map_from}
-use Rattle.execution_model.specs.Laws.{ClosuresAreGraphs}
+use Rattle.execution_model.specs.Laws.{ForwardTablesAreGraphs}
 
-module _ (net : Plan) (table : Graph) (plan : IsPlan net) (closure : IsClosure net table) where
+module _ (net : Plan) (table : Graph) (plan : IsPlan net) (is : IsForwardTable net table) where
   abbrev shape : Shape
   shape = shape_of net
-
-  -- an edge of the closure is derivable
-  derivable : (edge : Edge) → HasEdge table edge → IsDerivable net edge
-  derivable edge has =
-      (subst (λ (o : Option ℤ). MatchOption o ((weight : ℤ) → IsDerivableFor net (key_of edge) weight → ⊥) (IsLeastDerivable net (key_of edge))) has
-      (closure.weights (key_of edge))).derivable
 
   key_is : (edge : Edge) → IsEdge net edge → IsKey shape (key_of edge)
   key_is edge is = record { to_point = is.to_point; from_point = is.from_point; labelled = labelled edge.label is.labelled }
@@ -42,7 +35,7 @@ module _ (net : Plan) (table : Graph) (plan : IsPlan net) (closure : IsClosure n
 
   within : (edge : Edge) → HasEdge table edge → unsigned_abs edge.weight ≤ most_weight
   within edge has =
-      let bounded = law_derivable_are_bounded net edge plan (derivable edge has) in
+      let bounded = law_derivable_are_bounded net edge plan (is.derivable edge has) in
       let small = greatest-le net plan in
       omega (arith, bounded, small)
 
@@ -56,14 +49,14 @@ module _ (net : Plan) (table : Graph) (plan : IsPlan net) (closure : IsClosure n
 
   is_graph : IsGraph table
   is_graph =
-      let fits = sym closure.for_network in
+      let fits = sym is.for_network in
       record {
-        keys = λ edge has. subst (λ (s : Shape). IsKey s (key_of edge)) fits (key_is edge (law_derivable_are_edges net edge plan (derivable edge has)));
+        keys = λ edge has. subst (λ (s : Shape). IsKey s (key_of edge)) fits (key_is edge (law_derivable_are_edges net edge plan (is.derivable edge has)));
         weights = within;
         begins = subst (λ (s : Shape). All (λ (p : PointId). p.0 < s.points) s.activations) fits (all_contained (λ (p : PointId). p.0 < shape.points) shape.activations begins_in);
         few_points = subst (λ (s : Shape). s.points ≤ most_points) fits plan.few_points;
         few_links = subst (λ (s : Shape). length s.activations ≤ most_links) fits few;
       }
 
-pub law_closures_are_graphs : ClosuresAreGraphs
-law_closures_are_graphs net table plan closure = is_graph net table plan closure
+pub law_forward_tables_are_graphs : ForwardTablesAreGraphs
+law_forward_tables_are_graphs net table plan is = is_graph net table plan is

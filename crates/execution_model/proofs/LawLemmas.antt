@@ -8,22 +8,22 @@ use Rattle.std.proofs.lemmas.Option.{none-some}
 use Rattle.net_model.specs.Network.{Plan, IsPoint, IsContingent}
 use Rattle.net_model.specs.declared.ids.PointId.{PointId}
 use Rattle.net_model.specs.declared.part.Link.{Link}
-use Rattle.closure_model.specs.Tables.{Graph, IsClosed}
-use Rattle.closure_model.proofs.LawProofs.{law_closure_is_closed}
+use Rattle.closure_model.specs.Tables.{Graph}
 use Rattle.closure_model.proofs.Lists.{Contains-head, Contains-tail}
 use Rattle.closure_model.proofs.OrderLemmas.{find_none}
 use Rattle.strategy_model.specs.Situations.{IsSituation, moment_in}
 use Rattle.strategy_model.specs.Control.{IsEarliest}
 use Rattle.strategy_model.proofs.KindLemmas.{Ending}
+use Rattle.closure_laws.specs.Forward.{IsDispatchedForward}
 use Rattle.dispatch_net.proofs.ExecutionLemmas.{dispatchable_length, law_executions_satisfy}
-use Rattle.dispatch_net.proofs.EarliestLemmas.{law_closures_execute_earliest}
+use Rattle.dispatch_net.proofs.EarliestLemmas.{law_forward_tables_execute_earliest}
 use Rattle.net_model.specs.Moments.{Moments}
 use Rattle.execution_model.specs.Execution.{Setting, has_come, points_of, link_to, time_runs}
 use Rattle.execution_model.specs.Feeds.{Execution, started, next_moment, is_open, first_open}
-use Rattle.execution_model.specs.Streams.{Listing, IsListed, Shows, IsFaithful, last_moment}
+use Rattle.execution_model.specs.Streams.{Listing, IsListed, Shows, FitsSituation, IsFaithful, last_moment}
 use Rattle.execution_model.specs.Timely.{AreInTime, fed_all}
-use Rattle.execution_model.specs.Laws.{setting_of, IsDispatchedByClosure, IsExecutionOf, going_on, ended, FaithfulStreamsAreTaken, FeedsExecuteEarliest, DoneWhereNoneIsOpen, EndsAreEarliest, StreamsAreExecuted}
-use Rattle.execution_model.proofs.GraphLemmas.{law_closures_are_graphs}
+use Rattle.execution_model.specs.Laws.{setting_of, IsExecutionOf, going_on, ended, FaithfulStreamsAreTaken, FeedsExecuteEarliest, DoneWhereNoneIsOpen, EndsAreEarliest, StreamsAreExecuted}
+use Rattle.execution_model.proofs.GraphLemmas.{law_forward_tables_are_graphs}
 use Rattle.execution_model.proofs.MomentLemmas.{Contains-point}
 use Rattle.execution_model.proofs.PlaceLemmas.{link_found, ending_of, ending_point, contingent_ending, ending_contingent}
 use Rattle.execution_model.proofs.CutLemmas.{IsCut, IsRun, came, cut_value}
@@ -40,26 +40,26 @@ none_found test [] none = refl
 none_found test (x ∷ xs) none =
     ap (λ (b : Bool). cond b (Some x) (find test xs)) (none x (Contains-head x xs)) ∙ none_found test xs (λ y among. none y (Contains-tail x xs y among))
 
-module _ (net : Plan) (table : Graph) (order : List PointId) (by : IsDispatchedByClosure net table order) where
+module _ (net : Plan) (table : Graph) (order : List PointId) (by : IsDispatchedForward net table order) where
   -- the earliest schedule of a situation is the one that is executed
   pub run_of : (situation schedule : List ℕ) → IsEarliest net situation schedule → IsRun net table schedule
   run_of situation schedule earliest = record {
     plan = by.instant.sound;
-    for = by.closure.for_network;
-    sound = law_closures_are_graphs net table by.instant.sound by.closure;
+    for = by.forward.for_network;
+    sound = law_forward_tables_are_graphs net table by.instant.sound by.forward;
     situation = situation;
     is_situation = earliest.is_situation;
-    executed = (law_closures_execute_earliest net table order situation schedule by.instant by.closure (law_closures_are_graphs net table by.instant.sound by.closure) by.ordered earliest.is_situation).0 earliest;
+    executed = (law_forward_tables_execute_earliest net table order situation schedule by (law_forward_tables_are_graphs net table by.instant.sound by.forward) earliest.is_situation).0 earliest;
   }
 
   module _ (listings : List Listing) (execution : Execution) (fed : fed_all (started (setting_of net table)) listings ≡ Ok execution) (schedule : List ℕ)
       (run : IsRun net table schedule) (shows : Shows net (going_on listings) schedule) where
     leads : after_all (started (setting_of net table)) listings ≡ execution
-    leads = (fed_in_time net listings (started (setting_of net table)) execution (started_of net table by.instant by.closure.for_network) fed).1
+    leads = (fed_in_time net listings (started (setting_of net table)) execution (started_of net table by.instant by.forward.for_network) fed).1
 
     pub fed_keeps : KeepsTo net table schedule execution
     fed_keeps =
-        let start = start_keeps net table schedule by.closure.for_network in
+        let start = start_keeps net table schedule by.forward.for_network in
         subst (KeepsTo net table schedule) leads (feeds_keep net table schedule run listings (started (setting_of net table)) start (shows_next net schedule listings shows))
 
     pub fed_last : execution.last ≡ last_moment (going_on listings)
@@ -103,14 +103,14 @@ law_ends_are_earliest net table order listings execution after situation schedul
     ∙ whole_is net schedule (time_runs execution.setting execution.moments (next_moment execution) whole.count) (next_moment execution + whole.count) run.executed.complete cut whole.come
 
 -- ---- faithful streams
-module _ (net : Plan) (table : Graph) (order : List PointId) (by : IsDispatchedByClosure net table order) (listings : List Listing) where
+module _ (net : Plan) (table : Graph) (order : List PointId) (by : IsDispatchedForward net table order) (listings : List Listing) where
   -- feeds that are in time fit the situation that they show
   module _ (are : AreInTime (started (setting_of net table)) listings) where
     abbrev final : Moments
     final = (after_all (started (setting_of net table)) listings).moments
 
     of_start : IsExecutionOf net (started (setting_of net table))
-    of_start = started_of net table by.instant by.closure.for_network
+    of_start = started_of net table by.instant by.forward.for_network
 
     each_lasted : EachLasted net final
     each_lasted =
@@ -120,45 +120,55 @@ module _ (net : Plan) (table : Graph) (order : List PointId) (by : IsDispatchedB
     is_situation : IsSituation net (situation_seen net final)
     is_situation = seen_is_situation net by.instant.sound final each_lasted
 
-    pub in_time_fits : IsFaithful net (going_on listings)
-    in_time_fits =
-        let closed : IsClosed net table = (law_closure_is_closed net table by.closure).0 in
+    final_fits : FitsSituation net (going_on listings) (situation_seen net final)
+    final_fits =
         let situation = situation_seen net final in
         let (schedule, executed) =
-        (law_executions_satisfy net table order by.instant by.closure.for_network (law_closures_are_graphs net table by.instant.sound by.closure) closed by.ordered).executed situation is_situation in
+        (law_executions_satisfy net table order by.instant by.forward.for_network (law_forward_tables_are_graphs net table by.instant.sound by.forward) by.forward.closed by.ordered).executed situation is_situation in
         let run : IsRun net table schedule =
-        record { plan = by.instant.sound; for = by.closure.for_network; sound = law_closures_are_graphs net table by.instant.sound by.closure; situation = situation; is_situation = is_situation; executed = executed } in
+        record { plan = by.instant.sound; for = by.forward.for_network; sound = law_forward_tables_are_graphs net table by.instant.sound by.forward; situation = situation; is_situation = is_situation; executed = executed } in
         let shown : IsShownBy net table schedule final = record {
           run = run;
           each = each_lasted;
           timed = λ name link declared. executed.contingent name link (duration_seen final link) declared (seen_duration net by.instant.sound final each_lasted name link declared);
         } in
-        let next = in_time_next net table schedule final shown listings (started (setting_of net table)) of_start (start_keeps net table schedule by.closure.for_network) are refl in (
-          situation,
-          record {
-            schedule = schedule;
-            earliest = (law_closures_execute_earliest net table order situation schedule by.instant by.closure (law_closures_are_graphs net table by.instant.sound by.closure) by.ordered is_situation).1 executed;
-            shows = next_shows net schedule listings next;
-          },
-        )
+        let next = in_time_next net table schedule final shown listings (started (setting_of net table)) of_start (start_keeps net table schedule by.forward.for_network) are refl in
+        record {
+          schedule = schedule;
+          earliest = (law_forward_tables_execute_earliest net table order situation schedule by (law_forward_tables_are_graphs net table by.instant.sound by.forward) is_situation).1 executed;
+          shows = next_shows net schedule listings next;
+        }
+
+    pub in_time_fits : IsFaithful net (going_on listings)
+    in_time_fits = (situation_seen net final, final_fits)
 
   -- and a faithful stream is in time
   pub faithful_in_time : IsFaithful net (going_on listings) → AreInTime (started (setting_of net table)) listings
   faithful_in_time (situation, fits) =
       feeds_in_time net table fits.schedule (run_of net table order by situation fits.schedule fits.earliest) listings (started (setting_of net table))
-      (start_keeps net table fits.schedule by.closure.for_network)
+      (start_keeps net table fits.schedule by.forward.for_network)
       (shows_next net fits.schedule listings fits.shows)
 
-  pub fed_faithful : (execution : Execution) → fed_all (started (setting_of net table)) listings ≡ Ok execution → IsFaithful net (going_on listings)
-  fed_faithful execution fed =
-      in_time_fits (fed_in_time net listings (started (setting_of net table)) execution (started_of net table by.instant by.closure.for_network) fed).0
+  -- feeds that were taken fit the situation that they show
+  module _ (execution : Execution) (fed : fed_all (started (setting_of net table)) listings ≡ Ok execution) where
+    fed_timely : AreInTime (started (setting_of net table)) listings × (after_all (started (setting_of net table)) listings ≡ execution)
+    fed_timely = fed_in_time net listings (started (setting_of net table)) execution (started_of net table by.instant by.forward.for_network) fed
+
+    pub fed_lasted : EachLasted net execution.moments
+    fed_lasted = subst (λ (e : Execution). EachLasted net e.moments) fed_timely.1 (each_lasted fed_timely.0)
+
+    pub fed_fits : FitsSituation net (going_on listings) (situation_seen net execution.moments)
+    fed_fits = subst (λ (e : Execution). FitsSituation net (going_on listings) (situation_seen net e.moments)) fed_timely.1 (final_fits fed_timely.0)
+
+    pub fed_faithful : IsFaithful net (going_on listings)
+    fed_faithful = (situation_seen net execution.moments, fed_fits)
 
 pub law_faithful_streams_are_taken : FaithfulStreamsAreTaken
 law_faithful_streams_are_taken net table order listings by within = (
   (
     λ faithful. (
       after_all (started (setting_of net table)) listings,
-      in_time_fed net listings (started (setting_of net table)) (started_of net table by.instant by.closure.for_network) within (faithful_in_time net table order by listings faithful),
+      in_time_fed net listings (started (setting_of net table)) (started_of net table by.instant by.forward.for_network) within (faithful_in_time net table order by listings faithful),
     ),
     λ taken. fed_faithful net table order by listings taken.0 taken.1,
   ),
@@ -166,7 +176,7 @@ law_faithful_streams_are_taken net table order listings by within = (
 )
 
 -- ---- done streams
-module _ (net : Plan) (table : Graph) (order : List PointId) (by : IsDispatchedByClosure net table order) (listings : List Listing) (execution : Execution)
+module _ (net : Plan) (table : Graph) (order : List PointId) (by : IsDispatchedForward net table order) (listings : List Listing) (execution : Execution)
     (fed : fed_all (started (setting_of net table)) listings ≡ Ok execution) where
   open_test : (moments : Moments) (setting : Setting) (point : PointId) (come linked : Bool) → has_come moments point ≡ come → is_some (link_to setting point) ≡ linked
       → is_open setting moments point ≡ (if come then false else linked)
@@ -223,7 +233,7 @@ module _ (net : Plan) (table : Graph) (order : List PointId) (by : IsDispatchedB
           links = ap (λ (setting : Setting). setting.links) keeps.setting
 
           long : length execution.setting.dispatch ≡ length net.points
-          long = ap (λ (setting : Setting). length setting.dispatch) keeps.setting ∙ dispatchable_length net table by.closure.for_network
+          long = ap (λ (setting : Setting). length setting.dispatch) keeps.setting ∙ dispatchable_length net table by.forward.for_network
 
           each : (point : PointId) → IsContingent net point → IsListed (going_on listings) point (moment_in fits.schedule point)
           each point contingent = come (has_come execution.moments point) refl

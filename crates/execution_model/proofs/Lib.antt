@@ -19,8 +19,12 @@ pub mod SlimLemmas
 pub mod PacedLemmas
 pub mod OneByOneLemmas
 pub mod AtOnceLemmas
+pub mod AlikeLemmas
 pub mod SameLemmas
 pub mod RankedLemmas
 pub mod SlimFeedLemmas
+pub mod KeptLemmas
+pub mod ForwardDueLemmas
+pub mod ForwardExecutionLemmas
 pub mod OfClosureLemmas
 pub mod ShownStreamLemmas

@@ -27,37 +27,39 @@ use Rattle.dispatch_net.proofs.SlimLists.{list_passes, passes_each}
 abbrev pub Keeps : (before after : Moments) → Type 0
 Keeps before after = (point : PointId) (m : ℕ) → moment_of before point ≡ Some m → moment_of after point ≡ Some m
 
-module _ (setting : Setting) (before after : Moments) (keeps : Keeps before after) (t : ℕ) where
-  gone_later : (point : PointId) (n : ℤ) → has_gone_by before t point n ≡ true → has_gone_by after t point n ≡ true
-  gone_later point n gone = let (m, is, within) = from_gone_by before t point n gone in gone_by after t point n m (keeps point m is) within
+-- so what was met stays met, and later on what asks for no more is met too
+module _ (before after : Moments) (keeps : Keeps before after) (t u : ℕ) (later : t ≤ u) (n k : ℤ) (no_more : unsigned_abs k ≤ unsigned_abs n) where
+  pub gone_later : (point : PointId) → has_gone_by before t point n ≡ true → has_gone_by after u point k ≡ true
+  gone_later point gone = let (m, is, within) = from_gone_by before t point n gone in gone_by after u point k m (keeps point m is) (omega (arith, within, later, no_more))
 
   come_later : (point : PointId) → has_come before point ≡ true → has_come after point ≡ true
   come_later point come = let (m, is) = came before point come in ap is_some (keeps point m is)
 
-  wait_for_later : (n : ℤ) (link : Link) → meets_wait_for before t n link ≡ true → meets_wait_for after t n link ≡ true
-  wait_for_later n link met =
+  pub wait_for_later : (link : Link) → meets_wait_for before t n link ≡ true → meets_wait_for after u k link ≡ true
+  wait_for_later link met =
       let (is_activated, ends) = and_parts (has_come before link.from) (has_come before link.to || has_gone_by before t link.from n) met in
-      and_from (has_come after link.from) (has_come after link.to || has_gone_by after t link.from n) (come_later link.from is_activated)
+      and_from (has_come after link.from) (has_come after link.to || has_gone_by after u link.from k) (come_later link.from is_activated)
       (elim (or_cases (has_come before link.to) (has_gone_by before t link.from n) ends) [
-        | inl come ↦ or_left (has_come after link.to) (has_gone_by after t link.from n) (come_later link.to come)
-        | inr gone ↦ or_right (has_come after link.to) (has_gone_by after t link.from n) (gone_later link.from n gone)
+        | inl come ↦ or_left (has_come after link.to) (has_gone_by after u link.from k) (come_later link.to come)
+        | inr gone ↦ or_right (has_come after link.to) (has_gone_by after u link.from k) (gone_later link.from gone)
       ])
 
+module _ (setting : Setting) (before after : Moments) (keeps : Keeps before after) (t : ℕ) where
   wait_later : (wait : LinkId × ℤ) → meets_wait setting before t wait ≡ true → meets_wait setting after t wait ≡ true
   wait_later wait met = by (slice_get setting.links wait.0.0) met
     where
       by : (o : Option Link) → option_map_or (meets_wait_for before t wait.1) o false ≡ true → option_map_or (meets_wait_for after t wait.1) o false ≡ true
       by None met = met
-      by (Some link) met = wait_for_later wait.1 link met
+      by (Some link) met = wait_for_later before after keeps t t (omega arith) wait.1 wait.1 (omega arith) link met
 
   pub meets_later : (c : Conditions) → meets setting before t c ≡ true → meets setting after t c ≡ true
   meets_later c met =
       let (bounds, waits) = and_parts (list_all (meets_bound before t) c.lower_bounds) (list_all (meets_wait setting before t) c.waits) met in
       and_from (list_all (meets_bound after t) c.lower_bounds) (list_all (meets_wait setting after t) c.waits)
-      (list_passes (meets_bound after t) c.lower_bounds (λ bound among. gone_later bound.0 bound.1 (passes_each (meets_bound before t) c.lower_bounds bound bounds among)))
+      (list_passes (meets_bound after t) c.lower_bounds (λ bound among. gone_later before after keeps t t (omega arith) bound.1 bound.1 (omega arith) bound.0 (passes_each (meets_bound before t) c.lower_bounds bound bounds among)))
       (list_passes (meets_wait setting after t) c.waits (λ wait among. wait_later wait (passes_each (meets_wait setting before t) c.waits wait waits among)))
 
-none_yet : (points : List PointId) (k : ℕ) → get_or (map (λ (p : PointId). let none : Option ℕ = None in none) points) k None ≡ None
+pub none_yet : (points : List PointId) (k : ℕ) → get_or (map (λ (p : PointId). let none : Option ℕ = None in none) points) k None ≡ None
 none_yet [] k = refl
 none_yet (p ∷ ps) zero = refl
 none_yet (p ∷ ps) (suc k) = none_yet ps k

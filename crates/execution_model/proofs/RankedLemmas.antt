@@ -1,4 +1,4 @@
--- A network that is dispatched by a closed table descends along the order.
+-- A network that is dispatched by a forward closed table descends along the order.
 use Rattle.std.proofs.Common.{List, refl}
 use Rattle.net_model.specs.Network.{Plan}
 use Rattle.net_model.specs.declared.ids.PointId.{PointId}

@@ -3,6 +3,7 @@ use Rattle.std.proofs.Common.{◌≡◌, ℕ, zero, suc, ◌+◌, ◌<◌, ◌�
 use Rattle.std.specs.Prelude.{◌&&◌, ◌||◌, ◌==◌, not, ◌+ℤ◌, ◌<ℤ◌, int_le, slice_get, unsigned_abs}
 use Rattle.std.specs.List.{Contains, list_all}
 use Rattle.std.specs.Option.{option_map_or}
+use Rattle.std.specs.Cmp.Derive.{one_truth}
 use Rattle.std.proofs.lemmas.Bool.{and_parts, and_from, or_cases, or_left, or_right, true≢false, eqb-true}
 use Rattle.net_model.specs.declared.ids.PointId.{PointId}
 use Rattle.net_model.specs.declared.ids.LinkId.{LinkId}
@@ -170,13 +171,8 @@ module _ (setting : Setting) (rank : PointId → ℕ) (moments : Moments) (ranke
               | inr second ↦ met_over_wait wait other n_above m_above second met
             ]
 
-    same_truth : (a b : Bool) → (a ≡ true → b ≡ true) → (b ≡ true → a ≡ true) → a ≡ b
-    same_truth true b to from = sym (to refl)
-    same_truth false true to from = from refl
-    same_truth false false to from = refl
-
     pub slim_meets_the_same : meets setting moments t slim ≡ meets setting moments t lists
-    slim_meets_the_same = same_truth (meets setting moments t slim) (meets setting moments t lists) up down
+    slim_meets_the_same = one_truth (meets setting moments t slim) (meets setting moments t lists) up down
       where
         up : meets setting moments t slim ≡ true → meets setting moments t lists ≡ true
         up holds =

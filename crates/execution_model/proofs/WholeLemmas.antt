@@ -12,7 +12,8 @@ use Rattle.std.proofs.lemmas.List.Sums.{list_all-from_AllPass}
 use Rattle.std.proofs.lemmas.List.Elements.{All-head, All-tail, All-weaker, All-contains_itself}
 use Rattle.net_model.specs.Network.{Plan, IsPlan, IsLink, IsPoint, IsContingent, IsExecutable}
 use Rattle.net_model.specs.Edges.{IsLinkOf}
-use Rattle.net_model.specs.Rules.{removal, Follows as rules_of}
+use Rattle.net_model.specs.Rules.{removal}
+use Rattle.net_model.specs.ForwardRules as forward
 use Rattle.net_model.specs.declared.ids.PointId.{PointId}
 use Rattle.net_model.specs.declared.ids.LinkId.{LinkId}
 use Rattle.net_model.specs.declared.part.Edge.{Edge}
@@ -59,13 +60,13 @@ module _ (moments : Moments) where
               ap (λ (b : Bool). b && list_all (meets_bound moments t) others) gone ∙ rest.met t (omega (arith, late))
 
 -- ---- the edges of a table that may dispatch a network
-turned_below : (n : ℤ) → pos 0 <ℤ n → (pos 0 -ℤ n) <ℤ pos 0
+pub turned_below : (n : ℤ) → pos 0 <ℤ n → (pos 0 -ℤ n) <ℤ pos 0
 turned_below n above = grind (arith, ints)
 
 removed_below : (n low : ℤ) → pos 0 <ℤ n → pos 1 ≤ℤ low → int_max (pos 0 -ℤ n) (pos 0 -ℤ low) <ℤ pos 0
 removed_below n low above positive = grind (arith, ints, int_max_is)
 
-below_too : (w v : ℤ) → w ≤ℤ v → v <ℤ pos 0 → w <ℤ pos 0
+pub below_too : (w v : ℤ) → w ≤ℤ v → v <ℤ pos 0 → w <ℤ pos 0
 below_too w v less below = grind (arith, ints)
 
 module _ (net : Plan) (table : Graph) (order : List PointId) (plan : IsPlan net) (sound : IsGraph table) (may : MayDispatch net table order) where
@@ -107,7 +108,7 @@ module _ (net : Plan) (table : Graph) (order : List PointId) (plan : IsPlan net)
       let made : removal net premise ≡ Some edge =
       ap (option_and_then (λ (l : Link). let e : Edge = record { from = from; to = to; label = None; weight = int_max (pos 0 -ℤ n) (pos 0 -ℤ l.low) } in Some e)) declared in
       let here : IsLink net link = subst (IsLink net) (get_or_from_slice_get net.links label.0 link link declared) (plan.links_sound label.0 link (slice_get_within net.links label.0 link declared)) in
-      goes_by from to v (removed_below n link.low above here.positive) (may.closed edge (rules_of.by_removal premise (edge_listed table premise has) made))
+      goes_by from to v (removed_below n link.low above here.positive) (may.closed edge (forward.by_removal premise (edge_listed table premise has) made))
 
 -- ---- executable points, one after the other
 -- a network that is dispatched by a table, with every contingent point completed, and no act from a moment on

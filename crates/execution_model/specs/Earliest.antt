@@ -5,6 +5,7 @@ use Rattle.std.specs.List.{All}
 use Rattle.net_model.specs.Network.{Plan}
 use Rattle.net_model.specs.declared.ids.PointId.{PointId}
 use Rattle.closure_model.specs.Tables.{Graph}
+use Rattle.closure_laws.specs.Forward.{IsDispatchedForward}
 use Rattle.strategy_model.specs.Control.{Controls, IsEarliest}
 use Rattle.strategy_model.specs.Plays.{play}
 use Rattle.strategy_model.specs.Situations.{moment_in}
@@ -14,7 +15,7 @@ use Rattle.net_model.specs.Limits.{most_moment}
 use Rattle.execution_model.specs.Feeds.{Execution, started, next_moment, IsFed, IsFinished}
 use Rattle.execution_model.specs.Streams.{Listing, Stream, Shows, IsFaithful, fixed_by}
 use Rattle.execution_model.specs.Timely.{fed_all}
-use Rattle.execution_model.specs.Laws.{setting_of, IsDispatchedByClosure, going_on, ended}
+use Rattle.execution_model.specs.Laws.{setting_of, going_on, ended}
 use Rattle.execution_model.specs.Acts.{scheduled}
 use Rattle.execution_model.specs.declared.feed_answers.Fed.{Fed}
 use Rattle.execution_model.specs.declared.feed_answers.Fed.TheVariants as fed
@@ -48,20 +49,21 @@ pub record IsEndedEarliest (net : Plan) (stream : Stream) (old : Execution) (ans
   pub keeps : answer ≡ finished.Complete → (situation schedule : List ℕ) → IsEarliest net situation schedule → Shows net stream schedule
       → (count : ℕ) × All (λ moment. moment < next_moment old + count) schedule × KeepsToEarliest net stream situation schedule (next_moment old) count after
 
--- What is specified of a feed, for every network that is dispatched by its closure and every list of feeds that was taken before it: it is
--- taken exactly if the stream is faithful, and then the execution keeps to the earliest schedule of every situation that the stream fits.
+-- What is specified of a feed, for every network that is dispatched by a forward closed table with an order and every list of feeds that was
+-- taken before it: it is taken exactly if the stream is faithful, and then the execution keeps to the earliest schedule of every situation
+-- that the stream fits.
 abbrev pub FeedsEarliest : Execution → (moment : ℕ) → List PointId → Fed → Execution → Type 0
 FeedsEarliest old moment listed answer after =
-    (net : Plan) (table : Graph) (order : List PointId) (listings : List Listing) → IsDispatchedByClosure net table order
+    (net : Plan) (table : Graph) (order : List PointId) (listings : List Listing) → IsDispatchedForward net table order
     → fed_all (started (setting_of net table)) listings ≡ Ok old → moment ≤ most_moment
     → IsFedEarliest net (going_on (listings ++ record { moment = moment; points = listed } ∷ [])) old moment answer after
 
--- What is specified of the end, for every network that is dispatched by its closure and every list of feeds that was taken before it: it is
--- complete exactly if the stream that is said to be done is faithful, and then the execution is the whole earliest schedule of every
--- situation that the stream fits.
+-- What is specified of the end, for every network that is dispatched by a forward closed table with an order and every list of feeds that was
+-- taken before it: it is complete exactly if the stream that is said to be done is faithful, and then the execution is the whole earliest
+-- schedule of every situation that the stream fits.
 abbrev pub EndsEarliest : Execution → Finished → Execution → Type 0
 EndsEarliest old answer after =
-    (net : Plan) (table : Graph) (order : List PointId) (listings : List Listing) → IsDispatchedByClosure net table order
+    (net : Plan) (table : Graph) (order : List PointId) (listings : List Listing) → IsDispatchedForward net table order
     → fed_all (started (setting_of net table)) listings ≡ Ok old → IsEndedEarliest net (ended listings) old answer after
 
 abbrev pub FeedsAreEarliest : Type 0

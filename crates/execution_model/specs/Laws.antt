@@ -4,10 +4,10 @@ use Rattle.std.specs.List.{All}
 use Rattle.net_model.specs.Network.{Plan, IsPlan, IsContingent}
 use Rattle.net_model.specs.declared.ids.PointId.{PointId}
 use Rattle.closure_model.specs.Tables.{Graph, IsGraph}
-use Rattle.closure_model.specs.Closure.{IsClosure}
-use Rattle.closure_model.specs.Orders.{IsOrder}
+use Rattle.closure_model.specs.Closure.{IsForwardTable}
 use Rattle.strategy_model.specs.Plays.{IsInstant}
 use Rattle.strategy_model.specs.Control.{IsEarliest}
+use Rattle.closure_laws.specs.Forward.{IsDispatchedForward}
 use Rattle.dispatch_net.specs.Dispatchable.{MayDispatch, dispatchable}
 use Rattle.net_model.specs.Moments.{Moments, moment_of}
 use Rattle.execution_model.specs.Execution.{Setting, acts_at}
@@ -20,15 +20,9 @@ use Rattle.execution_model.specs.Timely.{IsInTime, with_completed, AreInTime, fe
 abbrev pub setting_of : Plan → Graph → Setting
 setting_of net table = record { links = net.links; dispatch = dispatchable net table }
 
--- a network, its closure and an order of it
-pub record IsDispatchedByClosure (net : Plan) (table : Graph) (order : List PointId) : Type 0 where
-  pub instant : IsInstant net
-  pub closure : IsClosure net table
-  pub ordered : IsOrder table order
-
--- the closure of a network is a sound table
-abbrev pub ClosuresAreGraphs : Type 0
-ClosuresAreGraphs = (net : Plan) (table : Graph) → IsPlan net → IsClosure net table → IsGraph table
+-- a forward closed table of derivable edges of a network is a sound table
+abbrev pub ForwardTablesAreGraphs : Type 0
+ForwardTablesAreGraphs = (net : Plan) (table : Graph) → IsPlan net → IsForwardTable net table → IsGraph table
 
 -- an execution of a network: by the links of the network, and with as many points
 pub record IsExecutionOf (net : Plan) (execution : Execution) : Type 0 where
@@ -56,11 +50,11 @@ FeedsAreTakenInTime =
     → (IsInTime execution moment listed ↔ (taken execution moment listed ≡ Ok (with_completed execution moment listed)))
     × ((moments : Moments) → taken execution moment listed ≡ Ok moments → moments ≡ with_completed execution moment listed)
 
--- from the start of a network that is dispatched by its closure, the feeds of a list are all taken exactly if the list is a faithful stream that continues, and
--- exactly if each is in time
+-- from the start of a network that is dispatched by a forward closed table with an order, the feeds of a list are all taken exactly if the list is a faithful
+-- stream that continues, and exactly if each is in time
 abbrev pub FaithfulStreamsAreTaken : Type 0
 FaithfulStreamsAreTaken =
-    (net : Plan) (table : Graph) (order : List PointId) (listings : List Listing) → IsDispatchedByClosure net table order → AreWithinLimit listings
+    (net : Plan) (table : Graph) (order : List PointId) (listings : List Listing) → IsDispatchedForward net table order → AreWithinLimit listings
     → (IsFaithful net (going_on listings) ↔ ((execution : Execution) × fed_all (started (setting_of net table)) listings ≡ Ok execution))
     × (IsFaithful net (going_on listings) ↔ AreInTime (started (setting_of net table)) listings)
 
@@ -68,21 +62,21 @@ FaithfulStreamsAreTaken =
 abbrev pub FeedsExecuteEarliest : Type 0
 FeedsExecuteEarliest =
     (net : Plan) (table : Graph) (order : List PointId) (listings : List Listing) (execution : Execution) (situation schedule : List ℕ)
-    → IsDispatchedByClosure net table order → fed_all (started (setting_of net table)) listings ≡ Ok execution
+    → IsDispatchedForward net table order → fed_all (started (setting_of net table)) listings ≡ Ok execution
     → IsEarliest net situation schedule → Shows net (going_on listings) schedule
     → execution.moments ≡ fixed_by (going_on listings) schedule
 
 -- the stream may be said to be done exactly if no contingent point is open
 abbrev pub DoneWhereNoneIsOpen : Type 0
 DoneWhereNoneIsOpen =
-    (net : Plan) (table : Graph) (order : List PointId) (listings : List Listing) (execution : Execution) → IsDispatchedByClosure net table order
+    (net : Plan) (table : Graph) (order : List PointId) (listings : List Listing) (execution : Execution) → IsDispatchedForward net table order
     → fed_all (started (setting_of net table)) listings ≡ Ok execution → (IsFaithful net (ended listings) ↔ (first_open execution ≡ None))
 
 -- and the end makes the whole of the earliest schedule of every situation that it fits
 abbrev pub EndsAreEarliest : Type 0
 EndsAreEarliest =
     (net : Plan) (table : Graph) (order : List PointId) (listings : List Listing) (execution after : Execution) (situation schedule : List ℕ)
-    → IsDispatchedByClosure net table order → fed_all (started (setting_of net table)) listings ≡ Ok execution
+    → IsDispatchedForward net table order → fed_all (started (setting_of net table)) listings ≡ Ok execution
     → IsWhole execution after → IsEarliest net situation schedule → Shows net (ended listings) schedule
     → after.moments ≡ map Some schedule
 
@@ -94,7 +88,7 @@ ExecutionsAreOne =
 -- and feeds that are all taken make it, up to the last moment, and whole at the end if no contingent point is open
 abbrev pub StreamsAreExecuted : Type 0
 StreamsAreExecuted =
-    (net : Plan) (table : Graph) (order : List PointId) (listings : List Listing) (execution : Execution) → IsDispatchedByClosure net table order
+    (net : Plan) (table : Graph) (order : List PointId) (listings : List Listing) (execution : Execution) → IsDispatchedForward net table order
     → fed_all (started (setting_of net table)) listings ≡ Ok execution → IsExecution net (going_on listings) execution.moments
     × (first_open execution ≡ None → (after : Execution) → IsWhole execution after → IsExecution net (ended listings) after.moments)
 

@@ -3,8 +3,10 @@ pub mod Feeds
 pub mod Streams
 pub mod Timely
 pub mod Laws
+pub mod Alike
 pub mod Acts
 pub mod Earliest
 pub mod Paced
 pub mod SlimLaws
+pub mod ForwardExecutions
 pub mod ShownStreams

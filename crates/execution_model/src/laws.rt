@@ -1,11 +1,12 @@
 //! Laws about executions, each the contract of a function without parameters. Those about an
-//! execution of a network, or about a network that is dispatched by its closure, are about networks
-//! in which reaction is instantaneous (`IsInstant`); the last two carry streams and acts to
-//! networks with a delay.
+//! execution of a network, or about a network that is dispatched by a forward closed table with an
+//! order (`IsDispatchedForward`; its closure is one), are about networks in which reaction is
+//! instantaneous (`IsInstant`); the last two carry streams and acts to networks with a delay.
 
 ghost use Rattle.execution_model.specs.Acts.{ActsAreEarliest, LastActsAreEarliest};
 ghost use Rattle.execution_model.specs.Earliest.{FinishesAreEarliest, FeedsAreEarliest};
-ghost use Rattle.execution_model.specs.Laws.{ClosuresAreGraphs, DoneWhereNoneIsOpen};
+ghost use Rattle.execution_model.specs.ForwardExecutions.{ForwardExecutionsAreAlike};
+ghost use Rattle.execution_model.specs.Laws.{DoneWhereNoneIsOpen, ForwardTablesAreGraphs};
 ghost use Rattle.execution_model.specs.Laws.{EndsAreEarliest, ExecutionsAreOne};
 ghost use Rattle.execution_model.specs.Laws.{FaithfulStreamsAreTaken};
 ghost use Rattle.execution_model.specs.Paced.{SlimIsDueTheSame, ActsComeOneByOne, OneByOneIsAtOnce};
@@ -29,9 +30,10 @@ pub fn law_no_acts_left_is_whole()
     ensures { NoActsLeftIsWhole }
 {}
 
-/// From the start of a network that is dispatched by its closure, the feeds of a list within the
-/// limit are all taken exactly if the list is a faithful stream that continues, and exactly if each
-/// is in time. So the first refusal comes exactly when a stream stops being faithful.
+/// From the start of a network that is dispatched by a forward closed table with an order, the
+/// feeds of a list within the limit are all taken exactly if the list is a faithful stream that
+/// continues, and exactly if each is in time. So the first refusal comes exactly when a stream
+/// stops being faithful.
 pub fn law_faithful_streams_are_taken()
     ensures { FaithfulStreamsAreTaken }
 {}
@@ -65,15 +67,15 @@ pub fn law_streams_are_executed()
     ensures { StreamsAreExecuted }
 {}
 
-/// The closure of a network is a sound table: of keys that there are, and of weights that a table
-/// may hold. So no other law here requires that of the table.
-pub fn law_closures_are_graphs()
-    ensures { ClosuresAreGraphs }
+/// A forward closed table of derivable edges of a network is a sound table: of keys that there are,
+/// and of weights that a table may hold. So no other law here requires that of such a table.
+pub fn law_forward_tables_are_graphs()
+    ensures { ForwardTablesAreGraphs }
 {}
 
-/// From the start of a network that is dispatched by its closure, the acts of a feed that is taken
-/// are those of the earliest schedule of every situation that the stream fits: of the moments since
-/// the last feed, and of the moment itself.
+/// From the start of a network that is dispatched by a forward closed table with an order, the acts
+/// of a feed that is taken are those of the earliest schedule of every situation that the stream
+/// fits: of the moments since the last feed, and of the moment itself.
 pub fn law_acts_are_earliest()
     ensures { ActsAreEarliest }
 {}
@@ -105,10 +107,18 @@ pub fn law_slim_is_due_the_same()
     ensures { SlimIsDueTheSame }
 {}
 
-/// From the start of a network that is dispatched by a closed table with an order, feeds, ends and
-/// next due moments are the same by its lists without the lower bounds and waits that others imply.
+/// From the start of a network that is dispatched by a forward closed table with an order, feeds,
+/// ends and next due moments are the same by its lists without the lower bounds and waits that
+/// others imply.
 pub fn law_slim_feeds_are_the_same()
     ensures { SlimFeedsAreTheSame }
+{}
+
+/// Executions of a network by two forward closed tables with orders are alike: from the start every
+/// list of feeds comes to the same moments and acts, or to its first refusal for the same cause;
+/// from there every feed, every end and every next due moment is the same.
+pub fn law_forward_executions_are_alike()
+    ensures { ForwardExecutionsAreAlike }
 {}
 
 /// An act of a moment makes no other point due at this moment, and leaves every other point due as

@@ -1,7 +1,7 @@
 -- Each plan of a fleet is answered as it is alone.
 use Rattle.std.proofs.Common.{◌≡◌, inl, inr, ℕ, zero, suc, ◌+◌, ◌-◌, ◌≤◌, List, [], ◌∷◌, ◌++◌, length, Some, refl, sym, ap, ◌∙◌, subst, arith, append_assoc, append-nil}
 use Rattle.std.specs.Prelude.{codes, slice_get}
-use Rattle.std.proofs.lemmas.List.{length-map}
+use Rattle.std.proofs.lemmas.List.{length-map, map-append}
 use Rattle.texts.specs.Lines.{InputLine, whole_line}
 use Rattle.texts.specs.PrintedLines.{printed_line}
 use Rattle.net_model.specs.Names.{is_name}
@@ -14,10 +14,10 @@ use Rattle.execution_model.specs.Feeds.{started}
 use Rattle.execution_model.specs.Laws.{setting_of}
 use Rattle.command_engine.specs.Limits.{most_input}
 use Rattle.command_engine.specs.Machine.{Machine}
-use Rattle.command_engine.specs.Runs.{Here, after_line, Answers, Run}
+use Rattle.command_engine.specs.Runs.{Here, after_line, Answers, Replies, Run}
 use Rattle.command_engine.specs.declared.endings.End.{End}
 use Rattle.command_engine.specs.declared.endings.End.TheVariants as ends
-use Rattle.command_engine.specs.declared.machines.Flow.TheVariants.{Continue}
+use Rattle.command_engine.specs.declared.machines.Flow.TheVariants.{Continue, Finish}
 use Rattle.common_answers.specs.Faults.{fault_line}
 use Rattle.common_answers.specs.VerdictLines.{controllable_line}
 use Rattle.common_answers.specs.declared.faults.Fault.TheVariants.{Format}
@@ -38,7 +38,7 @@ use Rattle.event_phase.proofs.DayLemmas.{ExecutionLaws}
 use Rattle.event_phase.proofs.EventLemmas.{at}
 use Rattle.event_phase.proofs.ExecutionLemmas.{IsOpened, execution_keeps}
 use Rattle.fleet_command.specs.FleetCommand.{BeginEach, BeginsIdle, BeginsPlan, fleet_around, plans_machine, refusal_words}
-use Rattle.fleet_command.specs.FleetPromise.{EachAlone, IsAlone, IsRunAlone, own_opens}
+use Rattle.fleet_command.specs.FleetPromise.{EachAlone, IsAlone, IsRunAlone, RunsOn, own_opens}
 use Rattle.fleet_command.specs.FleetStands.{fleet_capacity}
 use Rattle.fleet_command.specs.FleetText.{Plans}
 use Rattle.fleet_command.specs.PlanNames.{AreNamed}
@@ -95,6 +95,26 @@ answers_count : {C : Type 0} (machine : Machine C) (lines : List InputLine) (her
 answers_count machine [] here there said (nothing, same) = let number : here.number ≡ there.number = ap (λ (h : Here _). h.number) same in omega (arith, number)
 answers_count machine (line ∷ lines) here there said (answer, more, state, replies, all, later) = let on = answers_count machine lines (after_line here line state) there more later in omega (arith, on)
 
+-- lines of a plan's own that are some of an input and others are some of its own and these others
+same_lines : (owns ys : List (List ℕ)) → as_input owns ≡ as_input ys → owns ≡ ys
+same_lines [] [] same = refl
+same_lines [] (y ∷ ys) same = absurd (cc same)
+same_lines (own ∷ owns) [] same = absurd (cc same)
+same_lines (own ∷ owns) (y ∷ ys) same =
+    let head : whole_line own ≡ whole_line y = cc same in
+    let tail : as_input owns ≡ as_input ys = cc same in
+    let text : own ≡ y = ap (λ (l : InputLine). l.text) head in
+    ap (λ (l : List ℕ). l ∷ owns) text ∙ ap (λ (ls : List (List ℕ)). y ∷ ls) (same_lines owns ys tail)
+
+divide_lines : (owns : List (List ℕ)) (xs : List InputLine) (ys : List (List ℕ)) → as_input owns ≡ xs ++ as_input ys → (front : List (List ℕ)) × (as_input front ≡ xs) × (owns ≡ front ++ ys)
+divide_lines owns [] ys same = ([], refl, same_lines owns ys same)
+divide_lines [] (x ∷ xs) ys same = absurd (cc same)
+divide_lines (own ∷ owns) (x ∷ xs) ys same =
+    let head : whole_line own ≡ x = cc same in
+    let tail : as_input owns ≡ xs ++ as_input ys = cc same in
+    let (front, is, all) = divide_lines owns xs ys tail in
+    (own ∷ front, ap (λ (l : InputLine). l ∷ as_input front) head ∙ ap (λ (ls : List InputLine). x ∷ ls) is, ap (λ (ls : List (List ℕ)). own ∷ ls) all)
+
 abbrev first_here : EventRun → Here EventRun
 first_here event_run = record { state = event_run; number = 0; spare_capacity = most_input }
 
@@ -114,7 +134,7 @@ module _ (laws : ExecutionLaws) where
       leads [] rest other before divided (none, same, nothing) controls_too =
           subst (λ (n : Plan). IsOpened as_named n [] rest before put end) (sym same)
           (record {
-            controllable = law_ordered_closures_are_controllable shown begins.table begins.order begins.by_closure.instant begins.by_closure.closure begins.by_closure.ordered;
+            controllable = law_ordered_closures_are_controllable shown begins.table begins.order begins.by_closure.dispatched.instant begins.by_closure.closure begins.by_closure.dispatched.ordered;
             table = begins.table;
             order = begins.order;
             by_closure = begins.by_closure;
@@ -159,10 +179,57 @@ module _ (laws : ExecutionLaws) where
           promise = keeps (as_input owns) (said ++ line) (start.said ++ (said ++ line)) ends.Fault refl run;
         }
     alone_keeps owns said last (inr ended) =
+        let here = first_here event_run in
+        let run = ended.run in
+        let split : as_input owns ≡ run.first ++ as_input (ended.line ∷ ended.others) = run.divided ∙ ap (λ (ls : List InputLine). run.first ++ ls) ended.rest in
+        let (front, front_is, divided) = divide_lines owns run.first (ended.line ∷ ended.others) split in
+        let replies : Replies executing_machine run.there (as_input (ended.line ∷ ended.others)) run.last (Finish ended.end) =
+        subst (λ (ls : List InputLine). Replies executing_machine run.there ls run.last (Finish ended.end)) ended.rest run.ends in
+        let answers : Answers executing_machine here (as_input front) run.said run.there =
+        subst (λ (ls : List InputLine). Answers executing_machine here ls run.said run.there) (sym front_is) run.answers in
+        let ends_so : (rest : List (List ℕ)) → Run executing_machine here (as_input (front ++ ended.line ∷ rest)) ended.put ended.end = λ rest. record {
+          first = as_input front;
+          rest = as_input (ended.line ∷ rest);
+          said = run.said;
+          there = run.there;
+          last = run.last;
+          divided = map-append whole_line front (ended.line ∷ rest);
+          answers = answers;
+          ends = replies;
+          all = run.all;
+        } in
+        let on = answers_count executing_machine (as_input front) here run.there run.said answers in
+        let size : length (as_input front) ≡ length front = length-map front whole_line in
+        let count : run.there.number ≡ length front = omega (arith, on, size) in
+        let no_end : List ℕ = fault_line (Format (run.there.number + 1) kind.NoEnd) in
+        let same : no_end ≡ fault_line (Format (length front + 1) kind.NoEnd) = ap (λ (n : ℕ). fault_line (Format (n + 1) kind.NoEnd)) count in
+        let cut : Run executing_machine here (as_input front) (run.said ++ no_end) ends.Fault = record {
+          first = as_input front;
+          rest = [];
+          said = run.said;
+          there = run.there;
+          last = no_end;
+          divided = sym (append-nil (as_input front));
+          answers = answers;
+          ends = (ends.Fault, refl, (refl, refl));
+          all = refl;
+        } in
+        let before : List ℕ = start.said ++ run.said in
+        let cut_so : RunsOn net front (start.said ++ (run.said ++ no_end)) ends.Fault = (start.said, run.said ++ no_end, Continue event_run, inl (controls, begins), refl, cut) in
+        let whole : start.said ++ (run.said ++ no_end) ≡ before ++ fault_line (Format (length front + 1) kind.NoEnd) =
+        sym (append_assoc start.said run.said no_end) ∙ ap (λ (l : List ℕ). before ++ l) same in
         record {
           put = start.said ++ ended.put;
           end = ended.end;
-          answers = inr (ended.others, ap (λ (s : List ℕ). start.said ++ s) ended.all ∙ sym (append_assoc start.said ended.put (idles ended.others)));
+          answers = inr (record {
+            first = front;
+            line = ended.line;
+            others = ended.others;
+            divided = divided;
+            ended = λ rest. (start.said, ended.put, Continue event_run, inl (controls, begins), refl, ends_so rest);
+            not_before = (before, subst (λ (b : List ℕ). RunsOn net front b ends.Fault) whole cut_so);
+            idle = ap (λ (s : List ℕ). start.said ++ s) ended.all ∙ sym (append_assoc start.said ended.put (idles ended.others));
+          });
           runs = (start.said, ended.put, Continue event_run, inl (controls, begins), refl, ended.run);
           promise = keeps (as_input owns) ended.put (start.said ++ ended.put) ended.end refl ended.run;
         }

@@ -1,5 +1,5 @@
 -- What `fleet` promises: of each plan what `run` promises of that plan and its own lines alone.
-use Rattle.std.specs.Prelude.{◌≡◌, ◌⊎◌, ℕ, ◌+◌, List, [], ◌++◌, Some, length, slice_get}
+use Rattle.std.specs.Prelude.{◌≡◌, ◌⊎◌, ℕ, ◌+◌, List, [], ◌∷◌, ◌++◌, Some, length, slice_get}
 use Rattle.texts.specs.Lines.{InputLine, input_lines}
 use Rattle.texts.specs.PrintedLines.{printed_line}
 use Rattle.net_model.specs.Network.{Plan}
@@ -43,12 +43,23 @@ abbrev pub RunsOn : Plan → List (List ℕ) → List ℕ → End → Type 0
 RunsOn net lines put end =
     FollowsOutcome run_begins input_reader refusing executing_machine (without_feeders (in_notation Text)) (Given net 0 most_input (as_input lines)) put end
 
+-- The run over a plan's own lines ended at one of them, whatever comes after it, and at none before it; and each line after that one is
+-- answered by `idle`.
+pub record EndsAtLine (net : Plan) (lines : List (List ℕ)) (said put : List ℕ) (end : End) : Type 0 where
+  pub first : List (List ℕ)
+  pub line : List ℕ
+  pub others : List (List ℕ)
+  pub divided : lines ≡ first ++ line ∷ others
+  pub ended : (rest : List (List ℕ)) → RunsOn net (first ++ line ∷ rest) put end
+  pub not_before : (before : List ℕ) × RunsOn net first (before ++ fault_line (Format (length first + 1) NoEnd)) ends.Fault
+  pub idle : said ≡ put ++ idles others
+
 -- What is answered to a plan's own lines, of which a run puts so much: the same, without the fault of an input that ends too soon, and with
--- `idle` for each line after the end of that run.
-abbrev pub AnswersAs : (lines : List (List ℕ)) (said put : List ℕ) → End → Type 0
-AnswersAs lines said put end =
+-- `idle` for each line after that at which the run ended.
+abbrev pub AnswersAs : Plan → (lines : List (List ℕ)) (said put : List ℕ) → End → Type 0
+AnswersAs net lines said put end =
     ((put ≡ said ++ fault_line (Format (length lines + 1) NoEnd)) × (end ≡ ends.Fault))
-    ⊎ ((others : List (List ℕ)) × (said ≡ put ++ idles others))
+    ⊎ EndsAtLine net lines said put end
 
 -- a network and its own lines open its execution, from the first of them on; nothing is put before
 abbrev pub own_opens : Plan → Preamble
@@ -61,7 +72,7 @@ own_opens net = record {
 pub record IsRunAlone (net : Plan) (lines : List (List ℕ)) (said : List ℕ) : Type 0 where
   pub put : List ℕ
   pub end : End
-  pub answers : AnswersAs lines said put end
+  pub answers : AnswersAs net lines said put end
   pub runs : RunsOn net lines put end
   pub promise : ExecutionPromise (own_opens net) (as_input lines) put end
 

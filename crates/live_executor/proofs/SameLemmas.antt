@@ -1,6 +1,5 @@
 -- By what is kept a network is executed as by what was made.
-use Rattle.std.proofs.Common.{◌≡◌, ℕ, List, length, replicate, get_or, Option, Some, None, Result, Ok, Err, refl, ap, sym, subst, ◌∙◌, inl, inr, arith}
-use Rattle.std.specs.Option.{option_map_or}
+use Rattle.std.proofs.Common.{◌≡◌, ℕ, List, length, replicate, get_or, Option, None, Ok, refl, ap, sym, subst, ◌∙◌, inl, inr, arith}
 use Rattle.std.proofs.lemmas.Bool.{cases_lt}
 use Rattle.std.proofs.lemmas.List.{length-map, get_or-replicate, length-replicate, get_or_past}
 use Rattle.std.proofs.lemmas.Option.{none-some}
@@ -14,13 +13,10 @@ use Rattle.dispatch_net.specs.Ranked.{IsDispatchTable}
 use Rattle.dispatch_net.specs.Slim.{slim_conditions}
 use Rattle.net_model.specs.Moments.{Moments}
 use Rattle.execution_model.specs.Execution.{Setting, is_due, points_of, time_runs}
-use Rattle.execution_model.specs.Feeds.{completions_taken, first_overdue}
 use Rattle.execution_model.specs.Laws.{setting_of}
 use Rattle.execution_model.specs.Paced.{IsRankedNetwork, ArePaced, slim_setting}
-use Rattle.execution_model.specs.declared.feed_answers.Why.{Why}
-use Rattle.execution_model.proofs.PacedLemmas.{taken_paced}
 use Rattle.execution_model.proofs.RankedLemmas.{made_is_ranked}
-use Rattle.execution_model.proofs.SameLemmas.{same_points, same_time, settled}
+use Rattle.execution_model.proofs.SameLemmas.{completions_paced, same_points, same_time}
 use Rattle.execution_model.proofs.SlimLemmas.{law_slim_is_due_the_same}
 use Rattle.live_executor.specs.Sound.{IsDispatchOf, KeptNetwork, kept_network, made_setting, IsKeptNetwork, ExecutesTheSame}
 use Rattle.live_executor.specs.FeedParts.{completed}
@@ -86,12 +82,4 @@ module _ (network : KeptNetwork) (same : ExecutesTheSame network) where
   -- completions that are taken keep to what was made
   pub completed_paced : (moments taken : Moments) (moment : ℕ) (listed : List PointId) → ArePaced made moments → length moments ≡ length network.made → completed made moments moment listed ≡ Ok taken
       → ArePaced made taken × (length taken ≡ length network.made)
-  completed_paced moments taken moment listed paced long is = by (completions_taken made moments moment listed) refl is
-    where
-      by_overdue : (o : Option Why) (m : Moments) → ArePaced made m × (length m ≡ length network.made) → option_map_or Err o (Ok m) ≡ Ok taken → ArePaced made taken × (length taken ≡ length network.made)
-      by_overdue None m its is = (let same_moments : m ≡ taken = cc in subst (λ (n : Moments). ArePaced made n × (length n ≡ length network.made)) same_moments its)
-      by_overdue (Some why) m its is = absurd cc
-
-      by : (r : Result Moments Why) → completions_taken made moments moment listed ≡ r → settled made same.rank same.ranked made moment r ≡ Ok taken → ArePaced made taken × (length taken ≡ length network.made)
-      by (Ok m) went is = by_overdue (first_overdue made m moment) m (taken_paced made same.rank same.ranked listed moments m moment paced long went) is
-      by (Err why) went is = absurd cc
+  completed_paced = completions_paced made same.rank same.ranked

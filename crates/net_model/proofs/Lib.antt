@@ -11,6 +11,7 @@ pub mod DepartureLemmas
 pub mod LineLemmas
 pub mod PlanNumbers
 pub mod RuleLemmas
+pub mod ForwardRuleLemmas
 pub mod AppliedRuleLemmas
 pub mod PartsLemmas
 pub mod BetweenLemmas

@@ -7,6 +7,7 @@ pub mod Limits
 pub mod Network
 pub mod Edges
 pub mod Rules
+pub mod ForwardRules
 pub mod LooseRules
 pub mod Laws
 pub mod BuiltNetwork

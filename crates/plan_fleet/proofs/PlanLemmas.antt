@@ -3,27 +3,25 @@ use Rattle.std.proofs.Common.{◌≡◌, inl, inr, ℕ, List, length, Option, So
 use Rattle.net_model.specs.Moments.{Moments}
 use Rattle.net_model.specs.Network.{Plan, IsPlan}
 use Rattle.net_model.specs.declared.ids.PointId.{PointId}
-use Rattle.closure_laws.specs.Laws.{CyclesOfTablesExclude, OrderedClosuresAreControllable}
 use Rattle.net_model.specs.ShownForm.{shown_form}
 use Rattle.strategy_model.specs.Plays.{IsInstant}
 use Rattle.strategy_model.specs.ShownLaws.{ControllableIsShown}
-use Rattle.dispatch_net.specs.Dispatchable.{MayDispatch, DispatchLists, dispatchable}
-use Rattle.dispatch_net.specs.declared.dispatch.Conditions.{Conditions}
+use Rattle.closure_model.specs.Orders.{placed_points}
+use Rattle.closure_laws.specs.Forward.{IsDispatchedForward}
+use Rattle.canonical_closure.specs.CanonicalClosure.{canonical_closure, ControllableHaveCanonicalClosures}
+use Rattle.dispatch_net.specs.Dispatchable.{DispatchLists, IsDispatchBy}
 use Rattle.dispatch_net.proofs.ExecutionLemmas.{dispatchable_length}
-use Rattle.dispatch_net.proofs.EarliestLemmas.{law_closures_may_dispatch}
 use Rattle.execution_model.specs.Feeds.{Execution, after_feed, first_open, IsFed, IsFinished, IsWhole, started, taken}
-use Rattle.execution_model.specs.Laws.{IsDispatchedByClosure}
 use Rattle.execution_model.specs.declared.feed_answers.Fed.{Fed}
 use Rattle.execution_model.specs.declared.feed_answers.Fed.TheVariants as fed
 use Rattle.execution_model.specs.declared.feed_answers.Finished.{Finished}
 use Rattle.execution_model.specs.declared.feed_answers.Finished.TheVariants as finished
 use Rattle.execution_model.specs.declared.feed_answers.Why.{Why}
-use Rattle.execution_model.proofs.GraphLemmas.{law_closures_are_graphs}
-use Rattle.live_executor.specs.Sound.{IsDispatchOf}
-use Rattle.network_closure.specs.Saturation.{IsClosedBy}
-use Rattle.network_closure.specs.declared.closure.Closed.{Closed}
+use Rattle.forward_closure.specs.declared.decision.ForwardClosed.{ForwardClosed}
+use Rattle.forward_executor.specs.ForwardExecutions.{IsForwardDispatch}
+use Rattle.verdicts.specs.Decisions.{IsDecidedBy}
 use Rattle.plan_fleet.specs.FleetPlans.{FleetPlan, IsFleetPlan, IsFedPlan, IsFinishedPlan, OpensTo, state_at_first, state_fed, state_finished}
-use Rattle.plan_fleet.specs.FleetStart.{StartsBy, StartsWhere}
+use Rattle.plan_fleet.specs.FleetStart.{StartsBy}
 use Rattle.plan_fleet.specs.declared.states.State.{State}
 use Rattle.plan_fleet.specs.declared.states.State.TheVariants as state
 
@@ -123,74 +121,55 @@ finished_is_plan inside answer execution after stands is runs was finishes same 
     }
 
 -- ---- how a plan is opened
-pub by_closed : (net : Plan) (closed : Closed) → IsInstant net → IsClosedBy net closed → IsDispatchedByClosure net closed.table closed.order
-by_closed net closed instant is = record { instant = instant; closure = is.closure; ordered = is.order }
-
-pub may_dispatch : (net : Plan) (closed : Closed) → IsInstant net → IsClosedBy net closed → MayDispatch net closed.table closed.order
-may_dispatch net closed instant is = law_closures_may_dispatch net closed.table closed.order instant.sound is.closure is.order
-
-pub dispatch_of : (net : Plan) (closed : Closed) → IsInstant net → IsClosedBy net closed → (lists : DispatchLists) → lists.links ≡ net.links → lists.made ≡ dispatchable net closed.table
-    → IsDispatchOf net lists
-dispatch_of net closed instant is lists links made = record {
-  instant = instant;
+-- the dispatchable network of a forward closed table is one, slim or whole
+pub forward_dispatch : (net : Plan) (closed : ForwardClosed) (dispatch slim : DispatchLists) → IsDispatchedForward net closed.table closed.order → IsDispatchBy net closed.table dispatch → slim.links ≡ dispatch.links
+    → slim.made ≡ dispatch.made
+    → IsForwardDispatch net slim
+forward_dispatch net closed dispatch slim is by links made = record {
   table = closed.table;
   order = closed.order;
-  graph = law_closures_are_graphs net closed.table instant.sound is.closure;
-  may = may_dispatch net closed instant is;
-  links = links;
-  made = made;
-}
-
-pub starts_by : (net : Plan) (closed : Closed) (made : List Conditions) (execution : Execution) → IsClosedBy net closed → execution ≡ started (record { links = net.links; dispatch = made })
-    → made ≡ dispatchable net closed.table → StartsBy net closed execution
-starts_by net closed made execution closes is same = record {
-  closes = closes;
-  starts = is ∙ ap (λ (d : List Conditions). started (record { links = net.links; dispatch = d })) same;
+  dispatched = is;
+  links = links ∙ by.links;
+  made = made ∙ by.made;
 }
 
 module _ (net shown : Plan) (same : shown ≡ shown_form net) where
   abbrev at_first : Option Execution → State → FleetPlan
   at_first execution stands = record { net = net; execution = execution; state = stands }
 
-  opens_at_first : IsPlan net → IsInstant (shown_form net) → OrderedClosuresAreControllable → CyclesOfTablesExclude → ControllableIsShown → (execution : Option Execution)
-      → StartsWhere (shown_form net) execution → OpensTo net (at_first execution (state_at_first execution))
-  opens_at_first plan instant decide exclude shows (Some execution) (closed, by) = (
+  opens_at_first : IsPlan net → IsInstant (shown_form net) → ControllableIsShown → ControllableHaveCanonicalClosures → (execution : Option Execution) → IsDecidedBy StartsBy (shown_form net) execution
+      → OpensTo net (at_first execution (state_at_first execution))
+  opens_at_first plan instant shows closures (Some execution) (controls, is) = (
     refl,
     inl (record {
-      controllable = (shows net plan).1 (decide (shown_form net) closed.table closed.order instant by.closes.closure by.closes.order);
-      table = closed.table;
-      order = closed.order;
-      by_closure = by_closed (shown_form net) closed instant by.closes;
-      execution = ap Some by.starts;
+      controllable = (shows net plan).1 controls;
+      table = canonical_closure (shown_form net);
+      order = placed_points (canonical_closure (shown_form net));
+      by_closure = closures (shown_form net) instant controls;
+      execution = ap Some is;
       runs = refl;
     }),
   )
-  opens_at_first plan instant decide exclude shows None found = (
-    refl,
-    inr (record {
-      never = λ controls. exclude (shown_form net) found.table found.cycle instant found.derivable found.is ((shows net plan).0 controls);
-      execution = refl;
-      stands = refl;
-    }),
-  )
+  opens_at_first plan instant shows closures None never = (refl, inr (record { never = λ controls. never ((shows net plan).0 controls); execution = refl; stands = refl }))
 
-  pub opens : IsPlan net → IsInstant (shown_form net) → OrderedClosuresAreControllable → CyclesOfTablesExclude → ControllableIsShown → (execution : Option Execution)
-      → StartsWhere shown execution → (stands : State) → stands ≡ state_at_first execution → OpensTo net (at_first execution stands)
-  opens plan instant decide exclude shows execution starts stands is =
+  pub opens : IsPlan net → IsInstant (shown_form net) → ControllableIsShown → ControllableHaveCanonicalClosures → (execution : Option Execution) → IsDecidedBy StartsBy shown execution → (stands : State)
+      → stands ≡ state_at_first execution → OpensTo net (at_first execution stands)
+  opens plan instant shows closures execution starts stands is =
       subst (λ (s : State). OpensTo net (at_first execution s)) (sym is)
-      (opens_at_first plan instant decide exclude shows execution (subst (λ (n : Plan). StartsWhere n execution) same starts))
+      (opens_at_first plan instant shows closures execution (subst (λ (n : Plan). IsDecidedBy StartsBy n execution) same starts))
 
   -- an execution that is started is one of a plan that runs
-  kept_at_first : (execution : Option Execution) → StartsWhere shown execution → IsFleetPlan (at_first execution (state_at_first execution))
-  kept_at_first (Some execution) (closed, by) = record {
-    runs = λ now. (execution, refl, ap (λ (e : Execution). e.refused) by.starts);
-    points = λ other is.
-        let there : execution ≡ other = cc is in
+  kept_at_first : IsInstant shown → ControllableHaveCanonicalClosures → (execution : Option Execution) → IsDecidedBy StartsBy shown execution → IsFleetPlan (at_first execution (state_at_first execution))
+  kept_at_first instant closures (Some execution) (controls, is) = record {
+    runs = λ now. (execution, refl, ap (λ (e : Execution). e.refused) is);
+    points = λ other is_other.
+        let there : execution ≡ other = cc is_other in
         subst (λ (e : Execution). length e.setting.dispatch ≡ length net.points) there
-        (ap (λ (e : Execution). length e.setting.dispatch) by.starts
-        ∙ (dispatchable_length shown closed.table by.closes.closure.for_network ∙ ap (λ (n : Plan). length n.points) same));
+        (ap (λ (e : Execution). length e.setting.dispatch) is
+        ∙ (dispatchable_length shown (canonical_closure shown) (closures shown instant controls).closure.for_network ∙ ap (λ (n : Plan). length n.points) same));
   }
-  kept_at_first None found = record { runs = λ now. absurd (cc now); points = λ other is. absurd (cc is) }
+  kept_at_first instant closures None never = record { runs = λ now. absurd (cc now); points = λ other is. absurd (cc is) }
 
-  pub kept : (execution : Option Execution) → StartsWhere shown execution → (stands : State) → stands ≡ state_at_first execution → IsFleetPlan (at_first execution stands)
-  kept execution starts stands is = subst (λ (s : State). IsFleetPlan (at_first execution s)) (sym is) (kept_at_first execution starts)
+  pub kept : IsInstant shown → ControllableHaveCanonicalClosures → (execution : Option Execution) → IsDecidedBy StartsBy shown execution → (stands : State) → stands ≡ state_at_first execution
+      → IsFleetPlan (at_first execution stands)
+  kept instant closures execution starts stands is = subst (λ (s : State). IsFleetPlan (at_first execution s)) (sym is) (kept_at_first instant closures execution starts)

@@ -6,8 +6,9 @@ use Rattle.net_model.specs.ShownForm.{shown_form}
 use Rattle.net_model.specs.declared.ids.PointId.{PointId}
 use Rattle.strategy_model.specs.Control.{IsControllable}
 use Rattle.closure_model.specs.Tables.{Graph}
+use Rattle.canonical_closure.specs.CanonicalClosure.{IsDispatchedByClosure}
 use Rattle.execution_model.specs.Feeds.{Execution, started, IsFed, IsFinished}
-use Rattle.execution_model.specs.Laws.{IsDispatchedByClosure, setting_of}
+use Rattle.execution_model.specs.Laws.{setting_of}
 use Rattle.execution_model.specs.declared.feed_answers.Fed.{Fed}
 use Rattle.execution_model.specs.declared.feed_answers.Fed.TheVariants as fed
 use Rattle.execution_model.specs.declared.feed_answers.Finished.{Finished}

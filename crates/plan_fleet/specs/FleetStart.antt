@@ -1,12 +1,12 @@
--- How the plans of a fleet are opened: each is decided by the closed table of its shown form, and then its execution is started.
-use Rattle.std.specs.Prelude.{◌≡◌, ℕ, ◌<◌, List, length, map, Option, Some, None, Result, Ok, Err, IfOk, slice_index_or}
+-- How the plans of a fleet are opened: each is decided by its shown form, and then its execution is started if it is controllable.
+use Rattle.std.specs.Prelude.{◌≡◌, ℕ, ◌<◌, List, length, map, Result, Ok, Err, IfOk, slice_index_or}
 use Rattle.std.specs.List.{All}
 use Rattle.net_model.specs.Network.{Plan}
 use Rattle.net_model.specs.ShownForm.{shown_form}
+use Rattle.canonical_closure.specs.CanonicalClosure.{canonical_closure}
 use Rattle.execution_model.specs.Feeds.{Execution, started}
 use Rattle.execution_model.specs.Laws.{setting_of}
-use Rattle.network_closure.specs.Saturation.{ClosesTo, IsClosedBy, HasDerivableCycle}
-use Rattle.network_closure.specs.declared.closure.Closed.{Closed}
+use Rattle.verdicts.specs.Decisions.{IsDecidedBy, IsOrderedForwardTable}
 use Rattle.plan_fleet.specs.FleetPlans.{FleetPlan, OpensTo}
 use Rattle.plan_fleet.specs.declared.fleet_start.Decided.{Decided}
 use Rattle.plan_fleet.specs.declared.fleet_start.Job.{Job}
@@ -18,20 +18,14 @@ nets_of jobs = map (λ (job : Job). job.net) jobs
 abbrev pub nets_given : {N : Type 0} → List (N × Plan) → List Plan
 nets_given plans = map (λ plan. plan.1) plans
 
--- the table of its shown form was closed
+-- its shown form is controllable, and this a forward closed table of it with an order, or it is not
 pub record IsDecided (decided : Decided) : Type 0 where
   pub shown : decided.shown ≡ shown_form decided.net
-  pub closes : ClosesTo decided.shown decided.closed
+  pub is : IsDecidedBy IsOrderedForwardTable decided.shown decided.closed
 
--- an execution of a network is started by its closed table
-pub record StartsBy (net : Plan) (closed : Closed) (execution : Execution) : Type 0 where
-  pub closes : IsClosedBy net closed
-  pub starts : execution ≡ started (setting_of net closed.table)
-
--- it is started if there is a closed table with an order; else the network has a cycle
-abbrev pub StartsWhere : Plan → Option Execution → Type 0
-StartsWhere net (Some execution) = (closed : Closed) × StartsBy net closed execution
-StartsWhere net None = HasDerivableCycle net
+-- an execution of a network is started by its closure
+abbrev pub StartsBy : Plan → Execution → Type 0
+StartsBy net execution = execution ≡ started (setting_of net (canonical_closure net))
 
 -- this network was decided
 abbrev pub DecidesTo : Plan → Decided → Type 0

@@ -41,7 +41,7 @@ impl Fleet {
     /// Opens at most 64 plans, in their order: each is decided by one worker, side by side with the
     /// others, and if it is controllable its execution is started. A network is given as it is
     /// stated; with a delay it is executed by its shown form. The gate is called with the place of
-    /// each plan, counted from 0, before its table is closed. All memory that a fleet needs is
+    /// each plan, counted from 0, before it is decided. All memory that a fleet needs is
     /// taken here. `AllocError` comes only if memory is refused; then nothing was opened. That
     /// plans are decided side by side no clause says; `example_fleet` tests it.
     pub fn open<R: Threads + Sync, G: Gate>(

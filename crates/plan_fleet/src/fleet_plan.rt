@@ -9,7 +9,7 @@ ghost use Rattle.plan_fleet.specs.FleetPlans.{state_finished};
 
 use crate::states::{FleetFed, FleetFinished, State};
 use execution_model::{Act, Fed, Finished};
-use live_executor::Executor;
+use forward_executor::ForwardExecutor;
 use net_model::{Network, PointId};
 use std::marker::Model;
 
@@ -17,7 +17,7 @@ use std::marker::Model;
 #[derive(Drop)]
 pub(crate) struct FleetPlan {
     pub(crate) net: Network,
-    pub(crate) executor: Option<Executor>,
+    pub(crate) executor: Option<ForwardExecutor>,
     pub(crate) state: State,
 }
 

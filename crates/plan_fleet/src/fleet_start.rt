@@ -2,26 +2,23 @@
 
 ghost use Rattle.std.specs.Prelude.{◌≡◌, ◌≤◌, length, map, IfOk};
 ghost use Rattle.std.specs.List.{AllZip};
-ghost use Rattle.net_model.specs.ShownForm.{shown_form};
-ghost use Rattle.strategy_model.specs.Plays.{IsInstant};
-ghost use Rattle.network_closure.specs.Saturation.{ClosesTo, IsClosedBy};
+ghost use Rattle.verdicts.specs.Decisions.{IsDecidedBy, IsOrderedForwardTable};
 ghost use Rattle.plan_fleet.specs.FleetPlans.{OpensTo, state_at_first};
 ghost use Rattle.plan_fleet.specs.Limits.{most_plans};
 ghost use Rattle.plan_fleet.specs.FleetStart.{AllDecided, DecidesEach, DecidesTo, IsDecided};
-ghost use Rattle.plan_fleet.specs.FleetStart.{OpensDecided, StartsBy, StartsWhere, nets_of};
-ghost use Rattle.plan_fleet.specs.FleetStart.{nets_given};
+ghost use Rattle.plan_fleet.specs.FleetStart.{OpensDecided, StartsBy, nets_given, nets_of};
 
 use crate::fleet_plan::FleetPlan;
 use crate::states::State;
-use closure_laws::laws::{law_cycles_of_tables_exclude, law_ordered_closures_are_controllable};
-use dispatch_net::Dispatch;
-use live_executor::Executor;
+use canonical_closure::laws::law_controllable_have_canonical_closures;
+use forward_closure::ForwardClosed;
+use forward_executor::ForwardExecutor;
 use net_model::{Name, Network};
-use network_closure::{Closed, close};
 use parallel_rounds::Gate;
 use std::alloc::{AllocError, Global};
 use std::thread::{Threads, map_vec};
 use strategy_model::laws::shown::{law_controllable_is_shown, law_shown_form_is_instant};
+use verdicts::{dispatch_by, forward_table_if_controllable};
 
 /// A plan that is to be decided, and its place in the fleet.
 #[derive(Drop)]
@@ -30,13 +27,13 @@ pub(crate) struct Job {
     net: Network,
 }
 
-/// A plan that is decided: its shown form, with the closed table of this and its order if it has
-/// one.
+/// A plan that is decided: its shown form, with a forward closed table of this and its order
+/// if it is controllable.
 #[derive(Drop)]
 pub(crate) struct Decided {
     net: Network,
     shown: Network,
-    closed: Option<Closed>,
+    closed: Option<ForwardClosed>,
 }
 
 /// The plans that are to be decided, each with its place. `AllocError` comes only if memory is
@@ -74,7 +71,7 @@ pub(crate) fn decide_all<R: Threads + Sync, G: Gate>(
     )
 }
 
-/// Decides a plan by one worker: closes the table of its shown form.
+/// Decides a plan by one worker, by its shown form.
 fn decide<R: Threads + Sync, G: Gate>(
     rt: &R,
     alloc: Global,
@@ -86,7 +83,7 @@ fn decide<R: Threads + Sync, G: Gate>(
     gate.before(job.place);
     let Job { net, .. } = job;
     let shown = net.shown(alloc)?;
-    let closed = close(rt, alloc, &shown, 1)?;
+    let closed = forward_table_if_controllable(rt, alloc, &shown, 1)?;
     Ok(Decided { net, shown, closed })
 }
 
@@ -106,16 +103,14 @@ pub(crate) fn gather(
     Ok(members)
 }
 
-/// A plan as it is at first: if its closed table has an order it is controllable, and its execution
-/// is started.
+/// A plan as it is at first: its execution is started if it is controllable.
 fn opened(alloc: Global, decided: Decided) -> Result<FleetPlan, AllocError>
     requires { IsDecided decided }
     ensures { IfOk result (OpensTo decided.net) }
 {
-    law_ordered_closures_are_controllable();
-    law_cycles_of_tables_exclude();
-    law_shown_form_is_instant();
     law_controllable_is_shown();
+    law_shown_form_is_instant();
+    law_controllable_have_canonical_closures();
     decided.net.sound();
     let executor = started(alloc, &decided.shown, &decided.closed)?;
     let state = state_at_first(&executor);
@@ -128,7 +123,7 @@ fn opened(alloc: Global, decided: Decided) -> Result<FleetPlan, AllocError>
 }
 
 /// How a plan stands at first: it runs if it has an executor.
-fn state_at_first(executor: &Option<Executor>) -> State
+fn state_at_first(executor: &Option<ForwardExecutor>) -> State
     ensures { result ≡ state_at_first executor.now }
 {
     match executor {
@@ -137,15 +132,14 @@ fn state_at_first(executor: &Option<Executor>) -> State
     }
 }
 
-/// The execution of a network without a delay by its closed table, if that has an order.
+/// The execution of a network without a delay, exactly if it is controllable.
 fn started(
     alloc: Global,
     net: &Network,
-    closed: &Option<Closed>,
-) -> Result<Option<Executor>, AllocError>
-    requires instant { IsInstant net.now }
-    requires closes { ClosesTo net.now closed.now }
-    ensures { IfOk result (StartsWhere net.now) }
+    closed: &Option<ForwardClosed>,
+) -> Result<Option<ForwardExecutor>, AllocError>
+    requires { IsDecidedBy IsOrderedForwardTable net.now closed.now }
+    ensures { IfOk result (IsDecidedBy StartsBy net.now) }
 {
     match closed {
         None => Ok(None),
@@ -153,13 +147,16 @@ fn started(
     }
 }
 
-/// Starts the execution of a network by its closure, on those lower bounds and waits that no others
-/// imply.
-fn start(alloc: Global, net: &Network, closed: &Closed) -> Result<Executor, AllocError>
-    requires instant { IsInstant net.now }
-    requires closes { IsClosedBy net.now closed.now }
-    ensures { IfOk result (StartsBy net.now closed.now) }
+/// Starts the execution of a network by a forward closed table of it, on those lower bounds and
+/// waits that no others imply.
+fn start(
+    alloc: Global,
+    net: &Network,
+    closed: &ForwardClosed,
+) -> Result<ForwardExecutor, AllocError>
+    requires { IsOrderedForwardTable net.now closed.now }
+    ensures { IfOk result (StartsBy net.now) }
 {
-    let dispatch = Dispatch::of(alloc, net, &closed.table, closed.order.as_slice())?;
-    Executor::start(alloc, net, dispatch.slim())
+    let dispatch = dispatch_by(alloc, net, closed)?;
+    ForwardExecutor::start(alloc, net, dispatch.slim())
 }

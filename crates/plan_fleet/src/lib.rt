@@ -1,6 +1,5 @@
 //! A fleet of plans, each executed on its own: they are decided side by side, and no call for one
-//! changes another. Only `Fleet::open` takes memory. That plans are decided by closing their tables
-//! is this project's own choice.
+//! changes another. Only `Fleet::open` takes memory.
 #![tactic(auto)]
 
 mod fleet;

@@ -18,9 +18,8 @@ use Rattle.strategy_model.proofs.ShownFormLemmas.{moment_in_shown, size_shown}
 use Rattle.execution_model.specs.Feeds.{Execution, started}
 use Rattle.dispatch_net.specs.Dispatchable.{DispatchLists}
 use Rattle.dispatch_net.specs.declared.dispatch.Conditions.{Conditions}
-use Rattle.dispatch_net.specs.OfClosure.{IsDispatchOfClosure}
-use Rattle.situation_player.specs.PlayedDays.{IsStartedByClosure}
-use Rattle.strategy_model.specs.Plays.{IsInstant, points_of}
+use Rattle.situation_player.specs.PlayedDays.{IsStartedForward}
+use Rattle.strategy_model.specs.Plays.{points_of}
 use Rattle.command_engine.specs.Inputs.{AnswersText}
 use Rattle.command_engine.specs.declared.endings.End.{End}
 use Rattle.command_engine.specs.declared.endings.End.TheVariants.{Done}
@@ -32,9 +31,9 @@ use Rattle.common_answers.specs.VerdictLines.{controllable_line}
 use Rattle.play_command.specs.PlayedSituation.{situation_of}
 use Rattle.play_command.specs.declared.plan_day.PlayWords.{PlayWords}
 use Rattle.play_command.specs.declared.which_situation.WhichSituation.{WhichSituation}
-use Rattle.execution_model.proofs.OfClosureLemmas.{by_closure}
 use Rattle.command_contracts.proofs.DecidedLemmas.{after_line, yes_by, refutes_by}
-use Rattle.verdicts.proofs.RefutationLemmas.{answers_once}
+use Rattle.forward_executor.specs.ForwardExecutions.{IsForwardDispatch}
+use Rattle.command_contracts.proofs.PutVerdictLemmas.{answers_once}
 
 -- ---- the promise
 
@@ -81,16 +80,16 @@ play_answers_once unique words net a b x y = answers_once net (PutsTimes words.w
 
 -- ---- the execution that plays the day
 
--- an execution that is started with a dispatchable network of the closure is so by the closure
-pub started_by : (net : Plan) (lists : DispatchLists) (made : List Conditions) (execution : Execution) → IsInstant net → IsDispatchOfClosure net lists → made ≡ lists.made
-    → execution ≡ started (record { links = net.links; dispatch = made }) → IsStartedByClosure net execution
-started_by net lists made execution instant is same started_so =
+-- an execution that is started with a dispatchable network of a forward closed table is so by the table
+pub started_by : (net : Plan) (lists : DispatchLists) (made : List Conditions) (execution : Execution) → IsForwardDispatch net lists → made ≡ lists.made
+    → execution ≡ started (record { links = net.links; dispatch = made }) → IsStartedForward net execution
+started_by net lists made execution is same started_so =
     let from : List Conditions → Execution = λ d. started (record { links = net.links; dispatch = d }) in
     record {
       table = is.table;
       order = is.order;
-      by_closure = by_closure net lists instant is;
-      unused = started_so ∙ ap from (same ∙ is.by.made);
+      dispatched = is.dispatched;
+      unused = started_so ∙ ap from (same ∙ is.made);
     }
 
 -- ---- the lines of a day, by the schedule as it is shown

@@ -12,7 +12,7 @@ use Rattle.input_texts.specs.PlanInput.{plan_in}
 use Rattle.play_command.specs.PlayCommand.{PutsTimes, play_answers, times_text}
 use Rattle.command_contracts.specs.Programs.{Program}
 use Rattle.common_answers.specs.VerdictLines.{controllable_line, refuted_line}
-use Rattle.verdicts.specs.Verdict.{PutsDecided}
+use Rattle.command_contracts.specs.PutVerdicts.{PutsDecided}
 use Rattle.play_command.specs.PlayedSituation.{situation_of}
 use Rattle.play_command.specs.declared.plan_day.PlayWords.{PlayWords}
 use Rattle.play_command.specs.declared.which_situation.WhichSituation.{WhichSituation}

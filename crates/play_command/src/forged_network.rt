@@ -232,9 +232,11 @@ fn last_moment(alloc: Global, session: &OpenSession) -> Result<u64, AllocError>
     requires { IsControllable session.now.state.net }
     ensures { IfOk result (IsLastMoment (shown_form session.now.state.net)) }
 {
+    let shown = session.shown();
+    shown.sound();
     let dispatch = session.dispatch(alloc)?;
-    let longest = WhichSituation::Longest.situation(alloc, session.shown())?;
-    let schedule = played(alloc, session.shown(), dispatch, &longest)?;
+    let longest = WhichSituation::Longest.situation(alloc, shown)?;
+    let schedule = played(alloc, shown, dispatch, &longest)?;
     Ok(greatest_of(schedule.as_slice()))
 }
 

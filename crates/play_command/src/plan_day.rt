@@ -8,10 +8,11 @@ ghost use Rattle.net_model.specs.ShownForm.{shown_situation};
 ghost use Rattle.strategy_model.specs.Control.{IsEarliest};
 ghost use Rattle.strategy_model.specs.Plays.{points_of};
 ghost use Rattle.strategy_model.specs.Situations.{IsSituation, moment_in};
-ghost use Rattle.dispatch_net.specs.OfClosure.{IsDispatchOfClosure};
 ghost use Rattle.play_command.specs.PlayPromise.{PlayPromise, PutsPlay};
 ghost use Rattle.play_command.specs.PlayCommand.{PutsTimes, happened_in, play_answers};
 ghost use Rattle.play_command.specs.PlayCommand.{play_request, play_syntax, time_line};
+ghost use Rattle.forward_executor.specs.ForwardExecutions.{IsForwardDispatch};
+ghost use Rattle.verdicts.specs.Decisions.{IsOrderedForwardTable};
 ghost use Rattle.verdicts.specs.Verdict.{IsControllableBy};
 ghost use Rattle.play_command.specs.PlayedSituation.{situation_of};
 
@@ -21,10 +22,10 @@ use command_engine::{Answer, End, Question, Word};
 use command_words::{Arguments, Syntax};
 use common_answers::put_refuted;
 use dispatch_net::Dispatch;
+use forward_closure::ForwardClosed;
 use input_texts::{PlanForm, PlanNetwork};
 use live_executor::Executor;
 use net_model::{Network, PointId};
-use network_closure::Closed;
 use situation_player::play_out;
 use std::alloc::{AllocError, Global};
 use std::marker::Model;
@@ -146,17 +147,17 @@ fn put_day<R: Threads + Sync>(
 }
 
 /// Puts that a network is controllable into the buffer, which is empty, and the moments of its
-/// points in a situation, by the closure of its shown form.
+/// points in a situation, by a forward closed table of its shown form.
 fn put_times(
     alloc: Global,
     answer: &mut Answer,
     net: &Network,
     shown: &Network,
-    closed: &Closed,
+    closed: &ForwardClosed,
     which: WhichSituation,
 ) -> Result<End, AllocError>
     requires empty { answer.old.text ≡ [] }
-    requires verdict { IsControllableBy net.now shown.now closed.now }
+    requires verdict { IsControllableBy IsOrderedForwardTable net.now shown.now closed.now }
     ensures { IfOk result (PutsTimes which net.now answer.new.text) }
 {
     law_earliest_is_shown();
@@ -186,14 +187,14 @@ fn situation_as_shown(
 }
 
 /// The earliest schedule of a situation of a network without a delay, by a dispatchable network of
-/// its closure. `AllocError` comes only for want of memory.
+/// a forward closed table. `AllocError` comes only for want of memory.
 pub(crate) fn played(
     alloc: Global,
     net: &Network,
     dispatch: Dispatch,
     situation: &Situation,
 ) -> Result<Schedule, AllocError>
-    requires dispatch { IsDispatchOfClosure net.now dispatch }
+    requires dispatch { IsForwardDispatch net.now dispatch }
     requires no_delay { net.now.delay ≡ 0 }
     requires situation { IsSituation net.now situation.now.items }
     ensures { IfOk result (λ schedule. IsEarliest net.now situation.now.items schedule.items) }

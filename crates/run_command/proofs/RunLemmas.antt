@@ -68,7 +68,7 @@ module _ (query : RunForm) where
     initial (inl (controllable, begins)) = inl (
       controllable,
       record {
-        controllable = law_ordered_closures_are_controllable (shown_form net) begins.table begins.order begins.by_closure.instant begins.by_closure.closure begins.by_closure.ordered;
+        controllable = law_ordered_closures_are_controllable (shown_form net) begins.table begins.order begins.by_closure.dispatched.instant begins.by_closure.closure begins.by_closure.dispatched.ordered;
         table = begins.table;
         order = begins.order;
         by_closure = begins.by_closure;

@@ -2,7 +2,7 @@
 
 ghost use Rattle.std.specs.Prelude.{◌≡◌, [], option_map, IfOk};
 ghost use Rattle.command_engine.specs.Machine.{HasCapacity};
-ghost use Rattle.dispatch_net.specs.OfClosure.{IsDispatchOfClosure};
+ghost use Rattle.forward_executor.specs.ForwardExecutions.{IsForwardDispatch};
 ghost use Rattle.event_phase.specs.ExecutionStart.{BeginsExecutionBy};
 ghost use Rattle.event_phase.specs.EventPhase.{executing_machine};
 ghost use Rattle.run_command.specs.RunCommand.{completion_order_given};
@@ -65,8 +65,7 @@ impl Feeders {
         dispatch: Dispatch,
     ) -> Result<Flow<Executing>, AllocError>
         requires empty { answer.old.text ≡ [] }
-        requires dispatch { IsDispatchOfClosure net dispatch }
-        requires no_delay { net.delay ≡ 0 }
+        requires dispatch { IsForwardDispatch net dispatch }
         ensures begins { IfOk result (BeginsExecutionBy self.now net answer.new.text) }
         ensures spare_capacity { IfOk result
             (λ flow. HasCapacity executing_machine flow answer.new.capacity) }

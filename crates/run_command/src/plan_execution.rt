@@ -2,12 +2,12 @@
 
 ghost use Rattle.std.specs.Prelude.{◌≡◌, [], IfOk};
 ghost use Rattle.command_engine.specs.Machine.{HasCapacity};
-ghost use Rattle.execution_model.specs.Laws.{IsDispatchedByClosure};
 ghost use Rattle.event_phase.specs.EventPhase.{executing_machine};
 ghost use Rattle.command_contracts.specs.Programs.{or_nothing};
 ghost use Rattle.run_command.specs.RunPromise.{RunPromise, run_causes};
 ghost use Rattle.run_command.specs.RunCommand.{run_request, run_begins, run_start, run_syntax};
 ghost use Rattle.event_phase.specs.ExecutionStart.{BeginsExecutionBy};
+ghost use Rattle.verdicts.specs.Decisions.{IsOrderedForwardTable};
 
 use crate::feeders::Feeders;
 use command_contracts::{OneRun, Request, Specified, WorkerCount, form_given};
@@ -17,9 +17,9 @@ use common_answers::put_refuted;
 use event_phase::Executing;
 use event_stream::laws::law_lines_have_one_reading;
 use execution_model::laws as execution_laws;
+use forward_closure::ForwardClosed;
 use input_texts::{PlanForm, PlanInput, PlanNetwork};
 use net_model::Network;
-use network_closure::Closed;
 use std::alloc::{AllocError, Global};
 use std::marker::Model;
 use std::thread::Threads;
@@ -137,17 +137,17 @@ impl OneRun for Run {
     }
 }
 
-/// Begins the execution of a network without a delay, which is controllable, by its closure, and
-/// puts that it is controllable, and the first due moment.
+/// Begins the execution of a network without a delay, which is controllable, by a forward closed
+/// table of it, and puts that it is controllable, and the first due moment.
 fn begin_execution(
     alloc: Global,
     answer: &mut Answer,
     net: Network,
-    closed: &Closed,
+    closed: &ForwardClosed,
     feeders: &Feeders,
 ) -> Result<Flow<Executing>, AllocError>
     requires empty { answer.old.text ≡ [] }
-    requires closure { IsDispatchedByClosure net closed.now.table closed.now.order }
+    requires closure { IsOrderedForwardTable net closed.now }
     ensures begins { IfOk result (BeginsExecutionBy feeders.now net answer.new.text) }
     ensures spare_capacity { IfOk result
         (λ flow. HasCapacity executing_machine flow answer.new.capacity) }

@@ -10,7 +10,8 @@ use Rattle.net_model.specs.declared.part.Link.{Link}
 use Rattle.closure_model.specs.Tables.{Graph}
 use Rattle.strategy_model.specs.Plays.{points_of}
 use Rattle.execution_model.specs.Feeds.{Execution, started, IsFinished}
-use Rattle.execution_model.specs.Laws.{setting_of, IsDispatchedByClosure}
+use Rattle.closure_laws.specs.Forward.{IsDispatchedForward}
+use Rattle.execution_model.specs.Laws.{setting_of}
 use Rattle.execution_model.specs.Streams.{Listing, Stream, IsExecution}
 use Rattle.execution_model.specs.Timely.{fed_all}
 use Rattle.execution_model.specs.declared.feed_answers.Finished.TheVariants as finished
@@ -71,11 +72,11 @@ end_of entries = fold (λ most found. max most (moment_word found)) 0 entries
 abbrev pub stream_of : Plan → Entries → Stream
 stream_of net entries = record { listings = map (listing_at net entries) (range_with_len 0 (end_of entries)); done = true }
 
--- if the execution is that of a network dispatched by its closure, each of whose feeds was taken and whose end was complete, its moments are the execution of
--- the stream; nothing is required of what the feeds listed
+-- if the execution is that of a network dispatched by a forward closed table, each of whose feeds was taken and whose end was complete, its moments are the
+-- execution of the stream; nothing is required of what the feeds listed
 abbrev pub ExecutesWhole : Plan → Execution → Stream → Type 0
 ExecutesWhole net execution stream =
-    (table : Graph) (order : List PointId) (listings : List Listing) (before : Execution) → IsDispatchedByClosure net table order
+    (table : Graph) (order : List PointId) (listings : List Listing) (before : Execution) → IsDispatchedForward net table order
     → fed_all (started (setting_of net table)) listings ≡ Ok before → IsFinished before finished.Complete execution
     → IsExecution net stream execution.moments
 

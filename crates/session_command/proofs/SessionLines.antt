@@ -179,7 +179,7 @@ opened_by standing line lines number spare_capacity put answer flow end (control
     let on = subst (λ (o : Flow InSession). Continues session_machine (at_edit standing number spare_capacity) line lines put end o answer) goes continues in
     record {
       controllable =
-          law_ordered_closures_are_controllable (shown_form (net_of standing)) begins.table begins.order begins.by_closure.instant begins.by_closure.closure begins.by_closure.ordered;
+          law_ordered_closures_are_controllable (shown_form (net_of standing)) begins.table begins.order begins.by_closure.dispatched.instant begins.by_closure.closure begins.by_closure.dispatched.ordered;
       table = begins.table;
       order = begins.order;
       by_closure = begins.by_closure;

@@ -203,6 +203,7 @@ fn go(alloc: Global, answer: &mut Answer, state: Editing) -> Result<Flow<InSessi
         return Ok(Flow::Continue(InSession::Editing(state)));
     }
     let (shown, dispatch) = state.into_dispatched(alloc)?;
+    shown.sound();
     Ok(executing(begin_dispatched(alloc, answer, shown, dispatch)?))
 }
 

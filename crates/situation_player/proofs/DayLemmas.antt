@@ -24,7 +24,8 @@ use Rattle.net_model.specs.Moments.{Moments, moment_of}
 use Rattle.execution_model.specs.Execution.{Setting, acts_at, acted, time_runs}
 use Rattle.execution_model.specs.Feeds.{Execution, next_moment, IsNextDue}
 use Rattle.execution_model.specs.Streams.{Listing}
-use Rattle.execution_model.specs.Laws.{setting_of, IsDispatchedByClosure}
+use Rattle.closure_laws.specs.Forward.{IsDispatchedForward}
+use Rattle.execution_model.specs.Laws.{setting_of}
 use Rattle.execution_model.specs.declared.feed_answers.Why.{Why}
 use Rattle.execution_model.proofs.CutLemmas.{IsCut, IsRun, cut_value, not_sooner}
 use Rattle.execution_model.proofs.FittingLemmas.{IsNext, AreNext, end_of, KeepsTo}
@@ -60,7 +61,7 @@ by_or_not : (o : Option ℕ) (t : ℕ) → IsBy o t ⊎ (IsBy o t → ⊥)
 by_or_not None t = inr (λ by. by)
 by_or_not (Some m) t = elim (cases_lt t m) [ inl above ↦ inr (λ by. omega (arith, above, by)) | inr within ↦ inl within ]
 
-module _ (net : Plan) (table : Graph) (order : List PointId) (by : IsDispatchedByClosure net table order) (situation schedule : List ℕ) (earliest : IsEarliest net situation schedule) where
+module _ (net : Plan) (table : Graph) (order : List PointId) (by : IsDispatchedForward net table order) (situation schedule : List ℕ) (earliest : IsEarliest net situation schedule) where
   run : IsRun net table schedule
   run = run_of net table order by situation schedule earliest
 
@@ -202,7 +203,7 @@ module _ (net : Plan) (table : Graph) (order : List PointId) (by : IsDispatchedB
               ]
 
       long : length moments ≡ length (setting_of net table).dispatch
-      long = keeps.cut.long ∙ sym (dispatchable_length net table by.closure.for_network)
+      long = keeps.cut.long ∙ sym (dispatchable_length net table by.forward.for_network)
 
       still : IsCut net schedule moments (suc t)
       still =
@@ -315,7 +316,7 @@ module _ (net : Plan) (table : Graph) (order : List PointId) (by : IsDispatchedB
                     (let (after, none, some) = subst (λ (o : Option ℕ). IsNextDue execution o) due due_is in
                     some (none_due_no_acts execution.setting moments m
                     (λ point inside.
-                    let size = dispatchable_length net table by.closure.for_network in
+                    let size = dispatchable_length net table by.forward.for_network in
                     let dispatch = ap (λ (s : Setting). length s.dispatch) keeps.setting in
                     let stands : IsPoint net point = omega (arith, inside, size, dispatch) in
                     come_not_due execution.setting moments m point (moment_in schedule point) (keeps.cut.known point stands (all_come beyond point stands)))))

@@ -7,11 +7,9 @@ use Rattle.std.proofs.lemmas.List.Elements.{All-weaker, All-contains_itself, All
 use Rattle.std.proofs.lemmas.Option.{same_Some}
 use Rattle.net_model.specs.Network.{Plan}
 use Rattle.net_model.specs.declared.ids.PointId.{PointId}
-use Rattle.closure_model.specs.Tables.{IsClosed}
-use Rattle.closure_model.proofs.LawProofs.{law_closure_is_closed}
 use Rattle.strategy_model.specs.Control.{IsEarliest}
 use Rattle.strategy_model.specs.Situations.{IsSituation}
-use Rattle.dispatch_net.proofs.EarliestLemmas.{law_closures_execute_earliest}
+use Rattle.dispatch_net.proofs.EarliestLemmas.{law_forward_tables_execute_earliest}
 use Rattle.dispatch_net.proofs.ExecutionLemmas.{dispatchable_length, law_executions_satisfy}
 use Rattle.net_model.specs.Moments.{Moments}
 use Rattle.execution_model.specs.Execution.{Setting}
@@ -30,12 +28,12 @@ use Rattle.execution_model.proofs.CutLemmas.{IsRun}
 use Rattle.execution_model.proofs.EarliestLemmas.{refused_after}
 use Rattle.execution_model.proofs.FedLemmas.{fed_on, started_of, same_ok, err_ok, fed_in_time}
 use Rattle.execution_model.proofs.FittingLemmas.{IsNext, end_of, KeepsTo, feeds_in_time}
-use Rattle.execution_model.proofs.GraphLemmas.{law_closures_are_graphs}
+use Rattle.execution_model.proofs.GraphLemmas.{law_forward_tables_are_graphs}
 use Rattle.execution_model.proofs.LawLemmas.{run_of, fed_keeps, fed_end}
 use Rattle.execution_model.proofs.StreamLemmas.{shows_next, next_shows, shows_done, listed_before_end}
 use Rattle.execution_model.proofs.TimelyLemmas.{taken_in_time}
 use Rattle.execution_model.proofs.PlaceLemmas.{contingent_ending, ending_point}
-use Rattle.situation_player.specs.PlayedDays.{IsStartedByClosure, FollowsSituation, IsTimed, IsNextMoment, lastings_of, completing_at}
+use Rattle.situation_player.specs.PlayedDays.{IsStartedForward, FollowsSituation, IsTimed, IsNextMoment, lastings_of, completing_at}
 use Rattle.situation_player.specs.declared.played_day.Lasting.{Lasting}
 use Rattle.situation_player.proofs.CompletionLemmas.{completing_is}
 use Rattle.situation_player.proofs.DayLemmas.{next_one, is_next, within_limit, all_before, timed}
@@ -72,18 +70,17 @@ setting_stays : (execution : Execution) (answer : Finished) (after : Execution) 
 setting_stays execution answer after is_finished = stays execution answer after execution.refused is_finished
 
 -- ---- the start
-pub following_start : (net : Plan) (situation : List ℕ) (execution : Execution) → IsStartedByClosure net execution → IsSituation net situation → FollowsSituation net situation execution
+pub following_start : (net : Plan) (situation : List ℕ) (execution : Execution) → IsStartedForward net execution → IsSituation net situation → FollowsSituation net situation execution
 following_start net situation execution is fits =
-    let by = is.by_closure in
-    let graph = law_closures_are_graphs net is.table by.instant.sound by.closure in
-    let closed : IsClosed net is.table = (law_closure_is_closed net is.table by.closure).0 in
-    let (schedule, executed) = (law_executions_satisfy net is.table is.order by.instant by.closure.for_network graph closed by.ordered).executed situation fits in
+    let by = is.dispatched in
+    let graph = law_forward_tables_are_graphs net is.table by.instant.sound by.forward in
+    let (schedule, executed) = (law_executions_satisfy net is.table is.order by.instant by.forward.for_network graph by.forward.closed by.ordered).executed situation fits in
     record {
       table = is.table;
       order = is.order;
-      by_closure = by;
+      dispatched = by;
       schedule = schedule;
-      earliest = (law_closures_execute_earliest net is.table is.order situation schedule by.instant by.closure graph by.ordered fits).1 executed;
+      earliest = (law_forward_tables_execute_earliest net is.table is.order situation schedule by graph fits).1 executed;
       listings = [];
       fed = ap Ok (sym is.unused);
       shows = next_shows net schedule [] tt;
@@ -105,30 +102,30 @@ fed_more (first ∷ others) listing execution middle moments fed took =
 
 module _ (net : Plan) (situation : List ℕ) (execution : Execution) (is : FollowsSituation net situation execution) where
   run : IsRun net is.table is.schedule
-  run = run_of net is.table is.order is.by_closure situation is.schedule is.earliest
+  run = run_of net is.table is.order is.dispatched situation is.schedule is.earliest
 
   pub keeps : KeepsTo net is.table is.schedule execution
-  keeps = fed_keeps net is.table is.order is.by_closure is.listings execution is.fed is.schedule run is.shows
+  keeps = fed_keeps net is.table is.order is.dispatched is.listings execution is.fed is.schedule run is.shows
 
   end : next_moment execution ≡ end_of 0 is.listings
-  end = fed_end net is.table is.order is.by_closure is.listings execution is.fed is.schedule run is.shows
+  end = fed_end net is.table is.order is.dispatched is.listings execution is.fed is.schedule run is.shows
 
   unrefused : execution.refused ≡ None
   unrefused =
-      let leads = (fed_in_time net is.listings (started (setting_of net is.table)) execution (started_of net is.table is.by_closure.instant is.by_closure.closure.for_network) is.fed).1 in
+      let leads = (fed_in_time net is.listings (started (setting_of net is.table)) execution (started_of net is.table is.dispatched.instant is.dispatched.forward.for_network) is.fed).1 in
       ap (λ (e : Execution). e.refused) (sym leads) ∙ refused_after is.listings (started (setting_of net is.table))
 
   pub as_many : (length execution.moments ≡ length net.points) × (length execution.setting.dispatch ≡ length net.points)
   as_many = (
     keeps.cut.long,
-    ap (λ (s : Setting). length s.dispatch) keeps.setting ∙ dispatchable_length net is.table is.by_closure.closure.for_network,
+    ap (λ (s : Setting). length s.dispatch) keeps.setting ∙ dispatchable_length net is.table is.dispatched.forward.for_network,
   )
 
   pub timed_all : (lastings : List Lasting) → lastings ≡ lastings_of net.links situation → All (IsTimed (length execution.setting.dispatch) execution.moments) lastings
   timed_all lastings same =
       subst (λ (ls : List Lasting). All (IsTimed (length execution.setting.dispatch) execution.moments) ls) (sym same)
       (subst (λ (n : ℕ). All (IsTimed n execution.moments) (lastings_of net.links situation)) (sym as_many.1)
-      (timed net is.table is.order is.by_closure situation is.schedule is.earliest execution keeps))
+      (timed net is.table is.order is.dispatched situation is.schedule is.earliest execution keeps))
 
   -- the points that complete are points of the network
   pub completing_stand : (lastings : List Lasting) → lastings ≡ lastings_of net.links situation → (m : ℕ)
@@ -142,7 +139,7 @@ module _ (net : Plan) (situation : List ℕ) (execution : Execution) (is : Follo
 
   of : IsExecutionOf net execution
   of = record {
-    instant = is.by_closure.instant;
+    instant = is.dispatched.instant;
     links = ap (λ (s : Setting). s.links) keeps.setting;
     dispatch = as_many.1;
     moments = as_many.0;
@@ -157,10 +154,10 @@ module _ (net : Plan) (situation : List ℕ) (execution : Execution) (is : Follo
       listing = record { moment = m; points = points }
 
       next_listing : IsNext net is.schedule (next_moment execution) listing
-      next_listing = is_next net is.table is.order is.by_closure situation is.schedule is.earliest execution keeps unrefused next is_next_moment m there
+      next_listing = is_next net is.table is.order is.dispatched situation is.schedule is.earliest execution keeps unrefused next is_next_moment m there
 
       within : m ≤ most_moment
-      within = within_limit net is.table is.order is.by_closure situation is.schedule is.earliest execution keeps unrefused next is_next_moment m there
+      within = within_limit net is.table is.order is.dispatched situation is.schedule is.earliest execution keeps unrefused next is_next_moment m there
 
       took : taken execution m points ≡ Ok (with_completed execution m points)
       took =
@@ -186,7 +183,7 @@ module _ (net : Plan) (situation : List ℕ) (execution : Execution) (is : Follo
             record {
               table = is.table;
               order = is.order;
-              by_closure = is.by_closure;
+              dispatched = is.dispatched;
               schedule = is.schedule;
               earliest = is.earliest;
               listings = is.listings ++ listing ∷ [];
@@ -203,12 +200,12 @@ module _ (net : Plan) (situation : List ℕ) (execution : Execution) (is : Follo
     -- if no moment is next, the end makes the whole of the earliest schedule
     pub following_ended : next ≡ None → (answer : Finished) (after : Execution) → EndsEarliest execution answer after → after.moments ≡ map Some is.schedule
     following_ended none answer after ends =
-        let before = all_before net is.table is.order is.by_closure situation is.schedule is.earliest execution keeps unrefused next is_next_moment none in
+        let before = all_before net is.table is.order is.dispatched situation is.schedule is.earliest execution keeps unrefused next is_next_moment none in
         let shows : Shows net (ended is.listings) is.schedule =
         shows_done net is.schedule is.listings is.shows (λ point contingent.
         let less = before point (ending_point net run.plan point (contingent_ending net point contingent)) in
         listed_before_end net is.schedule 0 is.listings (shows_next net is.schedule is.listings is.shows) point contingent (omega arith) (omega (arith, less, end))) in
-        let law = ends net is.table is.order is.listings is.by_closure is.fed in
+        let law = ends net is.table is.order is.listings is.dispatched is.fed in
         let complete = law.answered.1 (situation, record { schedule = is.schedule; earliest = is.earliest; shows = shows }) in
         let (count, all, kept) = law.keeps complete situation is.schedule is.earliest shows in
         kept.moments

@@ -24,10 +24,10 @@ use Rattle.dispatch_net.specs.Dispatchable.{dispatchable, conditions_at}
 use Rattle.dispatch_net.specs.Execution.{IsFirstNotBefore, required_by_bound, required_by_wait, required_moments}
 use Rattle.dispatch_net.specs.Laws.{AreExact}
 use Rattle.dispatch_net.specs.declared.dispatch.Conditions.{Conditions}
-use Rattle.dispatch_net.proofs.EarliestLemmas.{law_closures_may_dispatch}
+use Rattle.dispatch_net.proofs.EarliestLemmas.{law_forward_tables_may_dispatch}
 use Rattle.dispatch_net.proofs.ExactLemmas.{law_lists_are_exact}
 use Rattle.dispatch_net.proofs.ExecutionLemmas.{point_count}
-use Rattle.execution_model.specs.Laws.{IsDispatchedByClosure}
+use Rattle.closure_laws.specs.Forward.{IsDispatchedForward}
 use Rattle.execution_model.proofs.CutLemmas.{IsRun, lasts}
 use Rattle.execution_model.proofs.LawLemmas.{run_of}
 
@@ -97,13 +97,13 @@ record IsBefore (net : Plan) (schedule : List ℕ) (point : PointId) : Type 0 wh
 sized : (n : ℤ) → pos 0 <ℤ n → unsigned_abs (pos 0 -ℤ n) ≤ most_size → (1 ≤ unsigned_abs n) × (unsigned_abs n ≤ most_size)
 sized n some small = (omega (arith, ints), omega (arith, ints, small))
 
-module _ (net : Plan) (table : Graph) (order : List PointId) (by : IsDispatchedByClosure net table order) (situation schedule : List ℕ) (earliest : IsEarliest net situation schedule) where
+module _ (net : Plan) (table : Graph) (order : List PointId) (by : IsDispatchedForward net table order) (situation schedule : List ℕ) (earliest : IsEarliest net situation schedule) where
   run : IsRun net table schedule
   run = run_of net table order by situation schedule earliest
 
   within : (edge : Edge) → HasEdge table edge → unsigned_abs edge.weight ≤ most_size
   within edge has =
-      let may = law_closures_may_dispatch net table order by.instant.sound by.closure by.ordered in
+      let may = law_forward_tables_may_dispatch net table order by.instant.sound by.forward by.ordered in
       let small = greatest-le net by.instant.sound in
       let low = may.within edge has in
       omega (arith, low, small)

@@ -6,19 +6,20 @@ use Rattle.net_model.specs.Network.{Plan}
 use Rattle.net_model.specs.declared.ids.PointId.{PointId}
 use Rattle.net_model.specs.declared.part.Link.{Link}
 use Rattle.closure_model.specs.Tables.{Graph}
+use Rattle.closure_laws.specs.Forward.{IsDispatchedForward}
 use Rattle.strategy_model.specs.Control.{IsEarliest}
 use Rattle.net_model.specs.Moments.{Moments, moment_of}
 use Rattle.execution_model.specs.Feeds.{Execution, started, IsDueAnswer}
 use Rattle.execution_model.specs.Streams.{Listing, Shows}
 use Rattle.execution_model.specs.Timely.{fed_all}
-use Rattle.execution_model.specs.Laws.{IsDispatchedByClosure, setting_of, going_on}
+use Rattle.execution_model.specs.Laws.{setting_of, going_on}
 use Rattle.situation_player.specs.declared.played_day.Lasting.{Lasting}
 
--- an execution before its first feed, of a network that is dispatched by its closure
-pub record IsStartedByClosure (net : Plan) (execution : Execution) : Type 0 where
+-- an execution before its first feed, of a network that is dispatched by a forward closed table
+pub record IsStartedForward (net : Plan) (execution : Execution) : Type 0 where
   pub table : Graph
   pub order : List PointId
-  pub by_closure : IsDispatchedByClosure net table order
+  pub dispatched : IsDispatchedForward net table order
   pub unused : execution ≡ started (setting_of net table)
 
 -- the links of a network in a situation, each with its duration
@@ -64,7 +65,7 @@ pub record IsTimed (points : ℕ) (moments : Moments) (lasting : Lasting) : Type
 pub record FollowsSituation (net : Plan) (situation : List ℕ) (execution : Execution) : Type 0 where
   pub table : Graph
   pub order : List PointId
-  pub by_closure : IsDispatchedByClosure net table order
+  pub dispatched : IsDispatchedForward net table order
   pub schedule : List ℕ
   pub earliest : IsEarliest net situation schedule
   pub listings : List Listing

@@ -4,7 +4,7 @@ ghost use Rattle.std.specs.Prelude.{◌≡◌, length, map, Some, IfOk, IsSome};
 ghost use Rattle.std.specs.List.{All};
 ghost use Rattle.strategy_model.specs.Control.{IsEarliest};
 ghost use Rattle.strategy_model.specs.Situations.{IsSituation};
-ghost use Rattle.situation_player.specs.PlayedDays.{IsStartedByClosure, IsTimed, lastings_of};
+ghost use Rattle.situation_player.specs.PlayedDays.{IsStartedForward, IsTimed, lastings_of};
 ghost use Rattle.situation_player.specs.PlayedDays.{completion, sooner, first_completion};
 ghost use Rattle.situation_player.specs.PlayedDays.{completes_at, completing_at, IsNextMoment};
 
@@ -22,9 +22,9 @@ struct Lasting {
 }
 
 /// The earliest schedule of a situation: a strategy that controls the network plays it, and no such
-/// strategy plays any point sooner there. The executor was started with the network on a
-/// dispatchable network of its closure, the whole or a slim one, and nothing was fed to it. The
-/// network has no delay. `AllocError` comes only if memory is refused. There is a feed for each
+/// strategy plays any point sooner there. The executor was started with the network on the
+/// dispatchable network of a forward closed table, the whole or a slim one, and nothing was fed to
+/// it. The network has no delay. `AllocError` comes only if memory is refused. There is a feed for each
 /// moment at which a point is executed or a link completes, and before each the links are gone over
 /// twice: that no clause says.
 pub fn play_out(
@@ -33,7 +33,7 @@ pub fn play_out(
     net: &Network,
     situation: &Situation,
 ) -> Result<Schedule, AllocError>
-    requires started { IsStartedByClosure net.now executor.old }
+    requires started { IsStartedForward net.now executor.old }
     requires situation { IsSituation net.now situation.now.items }
     ensures earliest { IfOk result
         (λ schedule. IsEarliest net.now situation.now.items schedule.items) }

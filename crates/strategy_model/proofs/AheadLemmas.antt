@@ -13,7 +13,7 @@ use Rattle.strategy_model.specs.Situations.{IsSituation, moment_in}
 use Rattle.strategy_model.specs.Plays.{IsInstant, play}
 use Rattle.strategy_model.specs.Control.{Controls}
 use Rattle.strategy_model.specs.Edges.{HoldsIn, HoldsOf}
-use Rattle.strategy_model.specs.Dispatch.{IsClosedList, IsOrder, HoldsBack, IsDispatched, release_moment}
+use Rattle.strategy_model.specs.Dispatch.{IsForwardClosedList, IsOrder, HoldsBack, IsDispatched, release_moment}
 use Rattle.strategy_model.specs.DispatchLaws.{DispatchedAreEarliest}
 use Rattle.strategy_model.specs.declared.tree.Tree.{Tree}
 use Rattle.strategy_model.proofs.PlayLemmas.{link_sound}
@@ -28,13 +28,13 @@ use Rattle.strategy_model.proofs.OrderLemmas.{rank, descends_to, descends_to_act
 use Rattle.strategy_model.proofs.KindLemmas.{kind}
 use Rattle.strategy_model.proofs.ViolationLemmas.{size_of, bound_release_moment, wait_release_moment, completion_is}
 use Rattle.strategy_model.proofs.SeenLemmas.{no_later, law_dispatched_are_one}
-use Rattle.strategy_model.proofs.CompletenessLemmas.{law_closed_lists_give_strategies}
+use Rattle.strategy_model.proofs.CompletenessLemmas.{law_forward_lists_give_strategies}
 
 -- The schedule of lower bounds and waits that a closed list of edges with an order gives in a situation, and what a strategy
 -- that controls the network, of which these edges are true, plays there.
 record DispatchedAndPlayed (net : Plan) (edges : List Edge) (order : List PointId) (situation schedule : List ℕ) (strategy : Tree) (other : List ℕ) : Type 0 where
   pub instant : IsInstant net
-  pub closed : IsClosedList net edges
+  pub closed : IsForwardClosedList net edges
   pub ordered : IsOrder net edges order
   pub is_situation : IsSituation net situation
   pub dispatched : IsDispatched net edges situation schedule
@@ -100,7 +100,7 @@ module _ (net : Plan) (edges : List Edge) (order : List PointId) (situation sche
 
 pub law_dispatched_are_earliest : DispatchedAreEarliest
 law_dispatched_are_earliest net edges order situation schedule instant closed ordered all is_situation dispatched =
-    let (strategy, controls, dispatches) = law_closed_lists_give_strategies net edges order instant closed ordered in
+    let (strategy, controls, dispatches) = law_forward_lists_give_strategies net edges order instant closed ordered in
     let (made, played, is_made) = dispatches situation is_situation in
     let same : made ≡ schedule = law_dispatched_are_one net edges order situation made schedule instant closed ordered is_situation is_made dispatched in
     record {

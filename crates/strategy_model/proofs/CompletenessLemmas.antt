@@ -1,14 +1,15 @@
--- A closed list of edges with an order gives a strategy that controls the network.
+-- A forward closed list of edges with an order gives a strategy that controls the network.
 use Rattle.std.proofs.Common.{List}
 use Rattle.std.proofs.lemmas.List.Elements.{recursion_from_All}
 use Rattle.net_model.specs.Network.{Plan}
 use Rattle.net_model.specs.declared.ids.PointId.{PointId}
 use Rattle.net_model.specs.declared.part.Edge.{Edge}
 use Rattle.strategy_model.specs.Plays.{IsInstant}
-use Rattle.strategy_model.specs.Dispatch.{IsClosedList, IsOrder, IsDynamic}
-use Rattle.strategy_model.specs.DispatchLaws.{AreTrue, ClosedListsGiveStrategies, ClosedListsDecide}
+use Rattle.strategy_model.specs.Dispatch.{IsForwardClosedList, IsOrder, IsDynamic}
+use Rattle.strategy_model.specs.DispatchLaws.{AreTrue, ForwardListsGiveStrategies, ClosedListsDecide}
 use Rattle.strategy_model.specs.Control.{IsControllable}
 use Rattle.strategy_model.specs.Edges.{HoldsOf, HasNoNegativeCycle}
+use Rattle.strategy_model.proofs.ClosedLemmas.{law_closed_lists_are_forward_closed}
 use Rattle.strategy_model.proofs.LoopLemmas.{walk_true, law_loops_exclude_strategies}
 use Rattle.strategy_model.proofs.ExactLemmas.{cycle_is_loop}
 use Rattle.strategy_model.proofs.InsertLemmas.{law_closed_lists_have_orders}
@@ -18,7 +19,7 @@ use Rattle.strategy_model.proofs.SeenLemmas.{law_dispatched_see_alone}
 use Rattle.strategy_model.proofs.UnfoldLemmas.{law_dynamic_strategies_are_trees}
 
 -- the schedules of lower bounds and waits are a dynamic execution strategy
-pub lower_is_dynamic : (net : Plan) (edges : List Edge) (order : List PointId) → IsInstant net → IsClosedList net edges → IsOrder net edges order → IsDynamic net (lower_schedule net edges order)
+pub lower_is_dynamic : (net : Plan) (edges : List Edge) (order : List PointId) → IsInstant net → IsForwardClosedList net edges → IsOrder net edges order → IsDynamic net (lower_schedule net edges order)
 lower_is_dynamic net edges order instant closed ordered =
     record {
       complete = λ situation is_situation. (lower_is_dispatched net edges order situation instant.sound closed ordered is_situation).complete;
@@ -28,8 +29,8 @@ lower_is_dynamic net edges order instant closed ordered =
           (lower_is_dispatched net edges order second instant.sound closed ordered is_second);
     }
 
-pub law_closed_lists_give_strategies : ClosedListsGiveStrategies
-law_closed_lists_give_strategies net edges order instant closed ordered =
+pub law_forward_lists_give_strategies : ForwardListsGiveStrategies
+law_forward_lists_give_strategies net edges order instant closed ordered =
     let (strategy, played) = law_dynamic_strategies_are_trees net (lower_schedule net edges order) instant (lower_is_dynamic net edges order instant closed ordered) in (
       strategy,
       λ situation is_situation. (
@@ -54,6 +55,6 @@ law_closed_lists_decide net edges instant closed all = (
   excluded net edges instant all,
   λ acyclic.
       let (order, ordered) = law_closed_lists_have_orders net edges closed acyclic in
-      let (strategy, controls, dispatches) = law_closed_lists_give_strategies net edges order instant closed ordered in
+      let (strategy, controls, dispatches) = law_forward_lists_give_strategies net edges order instant (law_closed_lists_are_forward_closed net edges closed) ordered in
       (strategy, controls),
 )

@@ -7,7 +7,7 @@ use Rattle.net_model.specs.Network.{Plan, IsPlan}
 use Rattle.net_model.specs.declared.part.Bound.{Bound}
 use Rattle.net_model.specs.declared.part.Edge.{Edge}
 use Rattle.strategy_model.specs.Situations.{IsSituation, Keeps, moment_in}
-use Rattle.strategy_model.specs.Dispatch.{IsClosedList, IsDispatched}
+use Rattle.strategy_model.specs.Dispatch.{IsForwardClosedList, IsDispatched}
 use Rattle.strategy_model.specs.DispatchLaws.{DispatchedSatisfy}
 use Rattle.strategy_model.proofs.ClosedLemmas.{stands_bound}
 use Rattle.strategy_model.proofs.ViolationLemmas.{none_violated}
@@ -20,7 +20,7 @@ at_most_or_above x y = by (y -ℤ x) refl
     by (pos n) is = inl (omega (arith, ints, is))
     by (negsuc n) is = inr (omega (arith, ints, is))
 
-bound_keeps : (net : Plan) (edges : List Edge) (situation schedule : List ℕ) → IsPlan net → IsClosedList net edges → IsSituation net situation → IsDispatched net edges situation schedule → (place : ℕ) (bound : Bound)
+bound_keeps : (net : Plan) (edges : List Edge) (situation schedule : List ℕ) → IsPlan net → IsForwardClosedList net edges → IsSituation net situation → IsDispatched net edges situation schedule → (place : ℕ) (bound : Bound)
     → slice_get net.bounds place ≡ Some bound → Keeps schedule bound
 bound_keeps net edges situation schedule plan closed is_situation dispatched place bound declared =
     elim (at_most_or_above (pos (moment_in schedule bound.to) -ℤ pos (moment_in schedule bound.from)) bound.most) [

@@ -16,7 +16,7 @@ use Rattle.net_model.specs.declared.part.Edge.{Edge}
 use Rattle.net_model.specs.declared.part.Link.{Link}
 use Rattle.strategy_model.specs.Situations.{IsSituation, moment_in}
 use Rattle.strategy_model.specs.Plays.{same_point, points_of}
-use Rattle.strategy_model.specs.Dispatch.{IsClosedList, IsOrder, HoldsBack, ComesAtOnce, IsDispatched, release_moment, completion_in}
+use Rattle.strategy_model.specs.Dispatch.{IsForwardClosedList, IsOrder, HoldsBack, ComesAtOnce, IsDispatched, release_moment, completion_in}
 use Rattle.strategy_model.specs.DispatchLaws.{DispatchedExist}
 use Rattle.strategy_model.proofs.MomentLemmas.{pick, same_from_test, test_from_same, point_at}
 use Rattle.strategy_model.proofs.StepLemmas.{points_length}
@@ -183,7 +183,7 @@ has_end moment (l ∷ links) (d ∷ durations) (suc place) link duration declare
     by true found rest = none-some (moment l.from + d) (sym found)
     by false missing rest = rest missing
 
-module _ (net : Plan) (edges : List Edge) (order : List PointId) (situation : List ℕ) (plan : IsPlan net) (closed : IsClosedList net edges) (ordered : IsOrder net edges order) (is_situation : IsSituation net situation) where
+module _ (net : Plan) (edges : List Edge) (order : List PointId) (situation : List ℕ) (plan : IsPlan net) (closed : IsForwardClosedList net edges) (ordered : IsOrder net edges order) (is_situation : IsSituation net situation) where
   by_test : (point : PointId) (edge : Edge) → Contains edges edge → binds point edge ≡ true → HoldsBack edges point edge
   by_test point edge among binding =
       let (here, negative) = and_parts (same_point edge.from point) (is_negative edge) binding in
@@ -321,7 +321,7 @@ module _ (net : Plan) (edges : List Edge) (order : List PointId) (situation : Li
         schedule_at link.to sound.to_point ∙ ends_after name link duration declared its ∙ ap (λ (m : ℕ). m + duration) (sym (schedule_at link.from sound.from_point));
   }
 
-pub lower_is_dispatched : (net : Plan) (edges : List Edge) (order : List PointId) (situation : List ℕ) → IsPlan net → IsClosedList net edges → IsOrder net edges order → IsSituation net situation
+pub lower_is_dispatched : (net : Plan) (edges : List Edge) (order : List PointId) (situation : List ℕ) → IsPlan net → IsForwardClosedList net edges → IsOrder net edges order → IsSituation net situation
     → IsDispatched net edges situation (lower_schedule net edges order situation)
 unfolding lower_schedule
 lower_is_dispatched net edges order situation plan closed ordered is_situation =

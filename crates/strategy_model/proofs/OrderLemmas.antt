@@ -15,7 +15,7 @@ use Rattle.net_model.specs.declared.part.Edge.{Edge}
 use Rattle.net_model.specs.declared.part.Link.{Link}
 use Rattle.net_model.proofs.AppliedRuleLemmas.{negative_holds}
 use Rattle.strategy_model.specs.Plays.{same_point}
-use Rattle.strategy_model.specs.Dispatch.{IsClosedList, IsOrder, HoldsBack}
+use Rattle.strategy_model.specs.Dispatch.{IsForwardClosedList, IsOrder, HoldsBack}
 use Rattle.strategy_model.proofs.MomentLemmas.{same_from_test, test_from_same}
 use Rattle.strategy_model.proofs.PlayLemmas.{link_sound}
 use Rattle.strategy_model.proofs.ExactLemmas.{below_zero}
@@ -39,7 +39,7 @@ rank_is order point among =
     let same = same_from_test point (get_or order (rank order point) point) (passes_at_first (same_point point) order point within) in
     slice_get-get_or order (rank order point) point within ∙ ap (λ (p : PointId). Some p) (sym same)
 
-module _ (net : Plan) (edges : List Edge) (order : List PointId) (plan : IsPlan net) (closed : IsClosedList net edges) (ordered : IsOrder net edges order) where
+module _ (net : Plan) (edges : List Edge) (order : List PointId) (plan : IsPlan net) (closed : IsForwardClosedList net edges) (ordered : IsOrder net edges order) where
   descends_along : (edge : Edge) → Contains edges edge → edge.label ≡ None → edge.weight <ℤ pos 0 → rank order edge.to < rank order edge.from
   descends_along edge among ordinary negative =
       let sound = edge_sound net edges closed edge among in

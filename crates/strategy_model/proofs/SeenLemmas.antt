@@ -8,7 +8,7 @@ use Rattle.net_model.specs.declared.ids.LinkId.{LinkId}
 use Rattle.net_model.specs.declared.part.Edge.{Edge}
 use Rattle.net_model.specs.declared.part.Link.{Link}
 use Rattle.strategy_model.specs.Situations.{IsSituation, moment_in}
-use Rattle.strategy_model.specs.Dispatch.{IsClosedList, IsOrder, HoldsBack, ComesAtOnce, IsDispatched, SameCompletions, release_moment}
+use Rattle.strategy_model.specs.Dispatch.{IsForwardClosedList, IsOrder, HoldsBack, ComesAtOnce, IsDispatched, SameCompletions, release_moment}
 use Rattle.strategy_model.specs.DispatchLaws.{DispatchedComeOnceFree, DispatchedAreOne, DispatchedSeeAlone}
 use Rattle.strategy_model.proofs.PlayLemmas.{link_sound}
 use Rattle.strategy_model.proofs.CompareLemmas.{duration_of}
@@ -36,7 +36,7 @@ law_dispatched_come_once_free net edges situation schedule point t dispatched ex
 abbrev ComesSooner : List ℕ → List ℕ → ℕ → PointId → Type 0
 ComesSooner first second m point = moment_in first point ≤ m → moment_in second point ≤ moment_in first point
 
-module _ (net : Plan) (edges : List Edge) (order : List PointId) (plan : IsPlan net) (closed : IsClosedList net edges) (ordered : IsOrder net edges order) where
+module _ (net : Plan) (edges : List Edge) (order : List PointId) (plan : IsPlan net) (closed : IsForwardClosedList net edges) (ordered : IsOrder net edges order) where
   -- What holds a point back in one schedule holds it back no longer in another, if its end and the completions up to then come no later.
   held_no_longer : (first second : List ℕ) (point : PointId) (edge : Edge) → HoldsBack edges point edge → release_moment net first edge ≤ moment_in first point
       → ComesSooner first second (moment_in first point) edge.to → ((name : LinkId) (link : Link) → IsLinkOf net name link → edge.to ≡ link.from → ComesSooner first second (moment_in first point) link.to)

@@ -16,7 +16,7 @@ use Rattle.net_model.specs.declared.part.Edge.{Edge}
 use Rattle.net_model.specs.declared.part.Link.{Link}
 use Rattle.net_model.proofs.AppliedRuleLemmas.{negative_holds}
 use Rattle.strategy_model.specs.Situations.{IsSituation, IsDuration, moment_in}
-use Rattle.strategy_model.specs.Dispatch.{Stands, IsClosedList, HoldsBack, IsDispatched, release_moment, moment_after_edge, completion_in}
+use Rattle.strategy_model.specs.Dispatch.{Stands, IsForwardClosedList, HoldsBack, IsDispatched, release_moment, moment_after_edge, completion_in}
 use Rattle.strategy_model.proofs.PlayLemmas.{link_sound}
 use Rattle.strategy_model.proofs.CompareLemmas.{duration_of}
 use Rattle.strategy_model.proofs.ExactLemmas.{below_zero}
@@ -77,7 +77,7 @@ lasts net edges situation schedule plan is_situation dispatched name link declar
     let (duration, its, fits) = duration_of net.links situation name.0 link is_situation declared in
     record { duration = duration; fits = fits; positive = (link_sound net plan name.0 link declared).positive; is = dispatched.contingent name link duration declared its }
 
-module _ (net : Plan) (edges : List Edge) (situation schedule : List ℕ) (plan : IsPlan net) (closed : IsClosedList net edges) (is_situation : IsSituation net situation) (dispatched : IsDispatched net edges situation schedule) where
+module _ (net : Plan) (edges : List Edge) (situation schedule : List ℕ) (plan : IsPlan net) (closed : IsForwardClosedList net edges) (is_situation : IsSituation net situation) (dispatched : IsDispatched net edges situation schedule) where
   its_lasts : (name : LinkId) (link : Link) → IsLinkOf net name link → Lasts schedule link
   its_lasts = lasts net edges situation schedule plan is_situation dispatched
 

@@ -1,4 +1,4 @@
--- Closed lists of edges, their orders, and the schedule of lower bounds and waits that they give (Morris and Muscettola
+-- Closed and forward closed lists of edges, their orders, and the schedule of lower bounds and waits that they give (Morris and Muscettola
 -- 2005; the order of the negative ordinary edges: Morris 2014; both in this project's form).
 use Rattle.std.specs.Prelude.{◌≡◌, ◌⊎◌, ℕ, ◌+◌, ◌<◌, ◌≤◌, ◌≤ℤ◌, min, unsigned_abs, IsTrue, List, length, Some, slice_get}
 use Rattle.std.specs.List.{All, Contains, IsDistinct}
@@ -6,6 +6,7 @@ use Rattle.std.specs.Option.{option_map_or}
 use Rattle.net_model.specs.Network.{Plan, IsPoint, IsExecutable}
 use Rattle.net_model.specs.Edges.{IsEdge, IsLinkOf}
 use Rattle.net_model.specs.Rules.{Follows, is_negative}
+use Rattle.net_model.specs.ForwardRules.{FollowsForward}
 use Rattle.net_model.specs.declared.ids.PointId.{PointId}
 use Rattle.net_model.specs.declared.ids.LinkId.{LinkId}
 use Rattle.net_model.specs.declared.part.Edge.{Edge}
@@ -28,6 +29,11 @@ pub record Stands (edges : List Edge) (edge : Edge) : Type 0 where
 pub record IsClosedList (net : Plan) (edges : List Edge) : Type 0 where
   pub edges_sound : All (IsEdge net) edges
   pub closed : (edge : Edge) → Follows net edges edge → Stands edges edge
+
+-- a forward closed list of edges of a network: in it stand the edges of bounds and links and whatever follows forward from it
+pub record IsForwardClosedList (net : Plan) (edges : List Edge) : Type 0 where
+  pub edges_sound : All (IsEdge net) edges
+  pub closed : (edge : Edge) → FollowsForward net edges edge → Stands edges edge
 
 -- an order of the points, each once, in which every negative ordinary edge goes from a later point to an earlier one
 pub record IsOrder (net : Plan) (edges : List Edge) (order : List PointId) : Type 0 where

@@ -1,4 +1,4 @@
--- What closed lists of edges give, and what trees play.
+-- What forward closed lists of edges give, and what trees play.
 use Rattle.std.specs.Prelude.{◌≡◌, ◌↔◌, ◌≤◌, ℕ, List, Some}
 use Rattle.std.specs.List.{All}
 use Rattle.net_model.specs.Network.{Plan, IsExecutable}
@@ -8,37 +8,41 @@ use Rattle.strategy_model.specs.Situations.{IsSituation, Satisfies, moment_in}
 use Rattle.strategy_model.specs.Plays.{play, IsInstant}
 use Rattle.strategy_model.specs.Control.{Controls, IsControllable, IsEarliest}
 use Rattle.strategy_model.specs.Edges.{HoldsOf, HasNoNegativeCycle}
-use Rattle.strategy_model.specs.Dispatch.{IsClosedList, IsOrder, HoldsBack, release_moment, IsDispatched, Dispatches, SameCompletions, SameExecutions}
-use Rattle.strategy_model.specs.Dispatch.{IsDynamic}
+use Rattle.strategy_model.specs.Dispatch.{IsClosedList, IsForwardClosedList, IsOrder, HoldsBack, release_moment, IsDispatched, Dispatches}
+use Rattle.strategy_model.specs.Dispatch.{SameCompletions, SameExecutions, IsDynamic}
 use Rattle.strategy_model.specs.declared.tree.Tree.{Tree}
 
 -- edges that are true of every strategy that controls the network
 abbrev pub AreTrue : Plan → List Edge → Type 0
 AreTrue net edges = (strategy : Tree) → Controls strategy net → All (HoldsOf net strategy) edges
 
--- a closed list of edges with an order gives a strategy that controls the network and plays the schedule of lower bounds
--- and waits in every situation
-abbrev pub ClosedListsGiveStrategies : Type 0
-ClosedListsGiveStrategies =
-    (net : Plan) (edges : List Edge) (order : List PointId) → IsInstant net → IsClosedList net edges → IsOrder net edges order
+-- a closed list of edges is forward closed
+abbrev pub ClosedListsAreForwardClosed : Type 0
+ClosedListsAreForwardClosed = (net : Plan) (edges : List Edge) → IsClosedList net edges → IsForwardClosedList net edges
+
+-- a forward closed list of edges with an order gives a strategy that controls the network and plays the schedule of lower
+-- bounds and waits in every situation
+abbrev pub ForwardListsGiveStrategies : Type 0
+ForwardListsGiveStrategies =
+    (net : Plan) (edges : List Edge) (order : List PointId) → IsInstant net → IsForwardClosedList net edges → IsOrder net edges order
     → (strategy : Tree) × Controls strategy net × Dispatches strategy net edges
 
 -- the schedule of lower bounds and waits satisfies the network
 abbrev pub DispatchedSatisfy : Type 0
 DispatchedSatisfy =
-    (net : Plan) (edges : List Edge) (situation schedule : List ℕ) → IsInstant net → IsClosedList net edges → IsSituation net situation
+    (net : Plan) (edges : List Edge) (situation schedule : List ℕ) → IsInstant net → IsForwardClosedList net edges → IsSituation net situation
     → IsDispatched net edges situation schedule → Satisfies net schedule
 
 -- there is one in every situation
 abbrev pub DispatchedExist : Type 0
 DispatchedExist =
-    (net : Plan) (edges : List Edge) (order : List PointId) (situation : List ℕ) → IsInstant net → IsClosedList net edges → IsOrder net edges order
+    (net : Plan) (edges : List Edge) (order : List PointId) (situation : List ℕ) → IsInstant net → IsForwardClosedList net edges → IsOrder net edges order
     → IsSituation net situation → (schedule : List ℕ) × IsDispatched net edges situation schedule
 
 -- and no other
 abbrev pub DispatchedAreOne : Type 0
 DispatchedAreOne =
-    (net : Plan) (edges : List Edge) (order : List PointId) (situation first second : List ℕ) → IsInstant net → IsClosedList net edges
+    (net : Plan) (edges : List Edge) (order : List PointId) (situation first second : List ℕ) → IsInstant net → IsForwardClosedList net edges
     → IsOrder net edges order → IsSituation net situation → IsDispatched net edges situation first → IsDispatched net edges situation second
     → first ≡ second
 
@@ -52,7 +56,7 @@ DispatchedComeOnceFree =
 abbrev pub DispatchedSeeAlone : Type 0
 DispatchedSeeAlone =
     (net : Plan) (edges : List Edge) (order : List PointId) (first second first_schedule second_schedule : List ℕ) (t : ℕ) → IsInstant net
-    → IsClosedList net edges → IsOrder net edges order → IsSituation net first → IsSituation net second
+    → IsForwardClosedList net edges → IsOrder net edges order → IsSituation net first → IsSituation net second
     → IsDispatched net edges first first_schedule → IsDispatched net edges second second_schedule
     → SameCompletions net t first_schedule second_schedule → SameExecutions net t first_schedule second_schedule
 
@@ -71,7 +75,7 @@ TreesAreDynamic =
 -- if the edges of the list are true of every strategy that controls the network, it is the earliest schedule
 abbrev pub DispatchedAreEarliest : Type 0
 DispatchedAreEarliest =
-    (net : Plan) (edges : List Edge) (order : List PointId) (situation schedule : List ℕ) → IsInstant net → IsClosedList net edges
+    (net : Plan) (edges : List Edge) (order : List PointId) (situation schedule : List ℕ) → IsInstant net → IsForwardClosedList net edges
     → IsOrder net edges order → AreTrue net edges → IsSituation net situation → IsDispatched net edges situation schedule
     → IsEarliest net situation schedule
 

@@ -1,60 +1,54 @@
 -- What decides the verdict of a network, and what a certificate of it says.
-use Rattle.std.proofs.Common.{◌≡◌, ℕ, ◌+◌, ◌*◌, ◌≤◌, length, List, Option, Some, None, sym, ap, ◌∙◌, subst, inl, inr}
-use Rattle.std.proofs.lemmas.List.{length-map}
+use Rattle.std.proofs.Common.{◌≡◌, Option, Some, None, sym, ap, ◌∙◌, subst, inl, inr}
 use Rattle.net_model.specs.Network.{Plan, IsPlan}
-use Rattle.net_model.specs.ShownForm.{shown_form, shown_link}
-use Rattle.cell_table.specs.Limits.{key_count, most_keys}
-use Rattle.closure_laws.specs.Laws.{CyclesOfTablesExclude, OrderedClosuresAreControllable}
-use Rattle.strategy_model.specs.Plays.{IsInstant}
+use Rattle.net_model.specs.ShownForm.{shown_form}
 use Rattle.strategy_model.specs.Control.{IsControllable}
+use Rattle.strategy_model.specs.Plays.{IsInstant}
 use Rattle.strategy_model.specs.ShownLaws.{ControllableIsShown}
-use Rattle.network_closure.specs.Saturation.{ClosesTo}
+use Rattle.network_closure.specs.Saturation.{IsClosedBy}
 use Rattle.network_closure.specs.declared.closure.Closed.{Closed}
-use Rattle.closure_model.specs.OrderLaws.{OrderedTablesArePlaced}
 use Rattle.cert_format.specs.CertificateWords.{HasWeights}
 use Rattle.cert_format.specs.declared.certificate.Certificate.{Certificate}
-use Rattle.cert_checker.specs.Judgement.{judgement_of}
-use Rattle.cert_checker.specs.declared.judgement.Judgement.TheVariants.{Accepted}
-use Rattle.cert_checker.specs.declared.judgement.Claim.TheVariants.{Controllable as ControllableClaim}
 use Rattle.refutation_certificates.specs.Refutations.{Refutes}
-use Rattle.closure_certificates.specs.Certified.{Certifies, Proves}
+use Rattle.closure_certificates.specs.Certified.{Certifies, Proves, TableProofsProve}
 use Rattle.closure_certificates.specs.TableProofs.{table_proof_of}
-use Rattle.command_engine.specs.declared.endings.End.{End}
-use Rattle.verdicts.specs.Verdict.{Decides, IsControllableBy, IsDecidedByClosure, PutsDecided}
-use Rattle.common_answers.specs.VerdictLines.{PutsRefuted}
-
--- a closure with an order decides it, and so does a derivable cycle
-pub closes_decides : OrderedClosuresAreControllable → CyclesOfTablesExclude → (net : Plan) → IsInstant net → (found : Option Closed) → ClosesTo net found → IsDecidedByClosure net found
-closes_decides decide exclude net instant (Some closed) is =
-    (decide net closed.table closed.order instant is.closure is.order, record { instant = instant; closure = is.closure; ordered = is.order }, is.placed)
-closes_decides decide exclude net instant None found = λ controls. exclude net found.table found.cycle instant found.derivable found.is controls
+use Rattle.verdicts.specs.Decisions.{IsDecidedBy, IsOrderedClosure}
+use Rattle.verdicts.specs.Verdict.{IsControllableBy, IsRefutedBy, IsVerdictBy, refutation_of}
+use Rattle.verdicts.specs.declared.verdict.Verdict.{Verdict}
+use Rattle.verdicts.specs.declared.verdict.Verdict.TheVariants.{Controllable, Refuted}
 
 -- what is decided of the shown form decides the network
-pub shown_decides : ControllableIsShown → (net shown : Plan) (closed : Closed) → IsPlan net → shown ≡ shown_form net → IsDecidedByClosure shown (Some closed) → IsControllableBy net shown closed
-shown_decides law net shown closed plan is decided = record {
+pub shown_decides : {T : Type 0} (By : Plan → T → Type 0) → ControllableIsShown → (net shown : Plan) (closed : T) → IsPlan net → shown ≡ shown_form net → IsDecidedBy By shown (Some closed)
+    → IsControllableBy By net shown closed
+shown_decides By law net shown closed plan is decided = record {
   as_shown = is;
   controllable = (law net plan).1 (subst IsControllable is decided.0);
-  by_closure = decided.1;
-  placed = decided.2;
+  by = decided.1;
 }
 
-pub shown_excludes : ControllableIsShown → (net shown : Plan) → IsPlan net → shown ≡ shown_form net → IsDecidedByClosure shown None → ¬ IsControllable net
+pub shown_excludes : ControllableIsShown → (net shown : Plan) → IsPlan net → shown ≡ shown_form net → (¬ IsControllable shown) → ¬ IsControllable net
 shown_excludes law net shown plan is never = λ controls. never (subst IsControllable (sym is) ((law net plan).0 controls))
 
--- what is made by a closure of the shown form and the order of its placed points proves that controllable
-pub table_proof_proves : ControllableIsShown → OrderedTablesArePlaced → (net shown : Plan) (closed : Closed) (cert : Certificate) → IsPlan net → IsControllableBy net shown closed
-    → cert ≡ table_proof_of shown closed.table closed.order → judgement_of shown cert ≡ Accepted ControllableClaim → HasWeights cert → Proves (shown_form net) cert
-table_proof_proves law placed net shown closed cert plan decided is accepted weights = subst (λ (n : Plan). Proves n cert) decided.as_shown (record {
-  some = subst IsControllable (sym decided.as_shown) ((law net plan).0 decided.controllable);
-  of = record {
-    table = closed.table;
-    closure = decided.by_closure.closure;
-    all_placed = placed closed.table closed.order decided.by_closure.ordered;
-    is = is ∙ ap (table_proof_of shown closed.table) decided.placed;
-  };
-  accepted = accepted;
-  weights = weights;
-})
+-- what refutes a network by its verdict refutes it
+pub verdict_refutes : {T : Type 0} (By : Plan → T → Type 0) (net : Plan) (verdict : Verdict T) → IsVerdictBy By net verdict → IsRefutedBy net (refutation_of verdict)
+verdict_refutes By net (Controllable stated shown closed) (same, by) = subst IsControllable same by.controllable
+verdict_refutes By net (Refuted cert) is = is
+
+-- the table proof by the closure of a controllable network without a delay proves it so
+pub closure_proves : TableProofsProve → (net shown : Plan) (closed : Closed) (cert : Certificate) → shown ≡ net → IsInstant net → IsControllable net → IsClosedBy shown closed
+    → cert ≡ table_proof_of shown closed.table closed.order → Proves net cert
+closure_proves law net shown closed cert same instant controls is made =
+    let by : IsClosedBy net closed = subst (λ (n : Plan). IsClosedBy n closed) same is in
+    let proves : Proves net (table_proof_of net closed.table closed.order) = law net closed.table closed.order instant.sound controls by.closure by.order by.placed in
+    subst (Proves net) (sym (made ∙ ap (λ (n : Plan). table_proof_of n closed.table closed.order) same)) proves
+
+-- so what is made by a closure of the shown form and the order of its placed points proves that controllable
+pub table_proof_proves : TableProofsProve → ControllableIsShown → (net shown : Plan) (closed : Closed) (cert : Certificate) → IsPlan net → IsControllableBy IsOrderedClosure net shown closed
+    → cert ≡ table_proof_of shown closed.table closed.order → Proves (shown_form net) cert
+table_proof_proves law shows net shown closed cert plan decided made =
+    let by = decided.by in
+    closure_proves law (shown_form net) shown closed cert decided.as_shown (subst IsInstant decided.as_shown by.instant) ((shows net plan).0 decided.controllable)
+    (record { closure = by.closure; order = by.ordered; placed = by.placed }) made
 
 -- a certificate that decides a network can be printed
 pub decides_in_print : (net : Plan) (cert : Certificate) → Certifies net cert → HasWeights cert
@@ -70,14 +64,3 @@ decides_yes net cert controls (inr refutes) = absurd (refutes.never controls)
 pub decides_no : (net : Plan) (cert : Certificate) → (¬ IsControllable net) → Certifies net cert → Refutes net cert
 decides_no net cert never (inl proves) = absurd (never proves.some)
 decides_no net cert never (inr refutes) = refutes
-
--- the answer to a network is its verdict
-pub verdict_put : (net : Plan) (Yes : Type 0) (put : List ℕ) (end : End) → Decides net Yes (λ cert. PutsRefuted cert put end) → PutsDecided net Yes put end
-verdict_put net Yes put end (inl controllable) = inl controllable
-verdict_put net Yes put end (inr (never, (cert, refutes, puts))) = inr (never, (cert, refutes.accepted, puts))
-
--- cells into which the keys of a network fit also take those of its shown form
-pub shown_fits : (net shown : Plan) → shown ≡ shown_form net → key_count net ≤ most_keys → key_count shown ≤ most_keys
-shown_fits net shown is few =
-    let many : key_count (shown_form net) ≡ key_count net = ap (λ (links : ℕ). (length net.points + links) * length net.points) (length-map net.links (shown_link net)) in
-    subst (λ (keys : ℕ). keys ≤ most_keys) (sym (ap key_count is ∙ many)) few

@@ -1,7 +1,12 @@
-//! The verdict of a network: its closure if some strategy controls it, else the certificate of its
-//! refutation.
+//! The verdict of a network: a table that decides it if some strategy controls the network, else
+//! the certificate of its refutation.
 #![tactic(auto)]
 
+mod certificates;
+mod closures;
+mod deciding_tables;
 mod verdict;
 
-pub use verdict::{Verdict, decide, decide_by_cells, decide_by_closure, dispatch_by, refute};
+pub use certificates::{prove, refute};
+pub use deciding_tables::{DecidingTable, dispatch_by, forward_table_if_controllable};
+pub use verdict::{Verdict, decide, decide_by_cells, decide_by_closure};

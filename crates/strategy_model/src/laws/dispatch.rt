@@ -1,7 +1,8 @@
-//! Laws about closed lists of edges, the schedules of lower bounds and waits that they give, and
-//! what trees play.
+//! Laws about closed and forward closed lists of edges, the schedules of lower bounds and waits that
+//! they give, and what trees play.
 
-ghost use Rattle.strategy_model.specs.DispatchLaws.{ClosedListsGiveStrategies, DispatchedSatisfy};
+ghost use Rattle.strategy_model.specs.DispatchLaws.{ClosedListsAreForwardClosed};
+ghost use Rattle.strategy_model.specs.DispatchLaws.{ForwardListsGiveStrategies, DispatchedSatisfy};
 ghost use Rattle.strategy_model.specs.DispatchLaws.{DispatchedExist, DispatchedAreOne};
 ghost use Rattle.strategy_model.specs.DispatchLaws.{DispatchedComeOnceFree, DispatchedSeeAlone};
 ghost use Rattle.strategy_model.specs.DispatchLaws.{DispatchedAreEarliest};
@@ -9,25 +10,31 @@ ghost use Rattle.strategy_model.specs.DispatchLaws.{DynamicStrategiesAreTrees, T
 ghost use Rattle.strategy_model.specs.DispatchLaws.{ClosedListsHaveOrders, ClosedListsDecide};
 ghost use Rattle.strategy_model.specs.DispatchLaws.{EarliestSeeAlone};
 
-/// A closed list of edges with an order gives a strategy that controls the network and plays the
-/// schedule of lower bounds and waits in every situation.
-pub fn law_closed_lists_give_strategies()
-    ensures { ClosedListsGiveStrategies }
+/// A closed list of edges is forward closed, so what is said here of forward closed lists is said of
+/// it.
+pub fn law_closed_lists_are_forward_closed()
+    ensures { ClosedListsAreForwardClosed }
 {}
 
-/// The schedule of lower bounds and waits of a closed list satisfies the network.
+/// A forward closed list of edges with an order gives a strategy that controls the network and plays
+/// the schedule of lower bounds and waits in every situation.
+pub fn law_forward_lists_give_strategies()
+    ensures { ForwardListsGiveStrategies }
+{}
+
+/// The schedule of lower bounds and waits of a forward closed list satisfies the network.
 pub fn law_dispatched_satisfy()
     ensures { DispatchedSatisfy }
 {}
 
-/// A closed list of edges with an order has a schedule of lower bounds and waits in every
+/// A forward closed list of edges with an order has a schedule of lower bounds and waits in every
 /// situation.
 pub fn law_dispatched_exist()
     ensures { DispatchedExist }
 {}
 
-/// A closed list of edges with an order has one schedule of lower bounds and waits in a situation
-/// and no other.
+/// A forward closed list of edges with an order has one schedule of lower bounds and waits in a
+/// situation and no other.
 pub fn law_dispatched_are_one()
     ensures { DispatchedAreOne }
 {}

@@ -12,6 +12,11 @@ use Rattle.play_command.specs.PlayedSituation.{situation_of}
 use Rattle.play_command.proofs.PlayLemmas.{times_put}
 use Rattle.play_command.proofs.plan_day.put_times.Goals as goal
 
+pub played-requires-clause-dispatch : goal.played-requires-clause-dispatch
+played-requires-clause-dispatch c =
+    let by = c.in_ok-dispatch.ensures in
+    record { table = c.args.closed.now.table; order = c.args.closed.now.order; dispatched = c.requires.verdict.by; links = by.links; made = by.made }
+
 pub played-requires-clause-no_delay : goal.played-requires-clause-no_delay
 played-requires-clause-no_delay c = ap (λ (net : Plan). net.delay) c.requires.verdict.as_shown
 

@@ -1,20 +1,20 @@
-use Rattle.std.proofs.Common.{◌≡◌, ◌∙◌, ap, subst, sym}
-use Rattle.std.proofs.lemmas.Result.{IfOk-weaker}
-use Rattle.cert_format.specs.declared.certificate.Certificate.{Certificate}
-use Rattle.closure_model.specs.Orders.{IsOrder}
-use Rattle.closure_certificates.specs.TableProofs.{table_proof_of}
-use Rattle.deadline_search.specs.Answers.{ProvesAt}
-use Rattle.deadline_search.proofs.SearchLemmas.{proves_at}
+use Rattle.std.proofs.Common.{◌≡◌, ◌∙◌, ap, rules, subst, sym, w64, to_z, of_z}
+use Rattle.std.specs.Prelude.{IfOk}
+use Rattle.net_model.specs.Network.{Plan}
+use Rattle.net_model.specs.ShownForm.{shown_form}
+use Rattle.strategy_model.specs.Control.{IsControllable}
+use Rattle.closure_certificates.specs.Certified.{Proves}
+use Rattle.deadline_search.specs.Goals.{with_goal}
 use Rattle.deadline_search.proofs.goal_search.Search.proof.Goals as goal
 
-pub table_proof-requires-clause-closure : goal.table_proof-requires-clause-closure
-table_proof-requires-clause-closure c = c.requires.decided.1.closure
-
-pub table_proof-requires-clause-order : goal.table_proof-requires-clause-order
-table_proof-requires-clause-order c = subst (IsOrder c.args.kept.closed.table) (sym c.as_slice.ensures) c.requires.decided.1.ordered
+pub prove-requires-clause-controllable : goal.prove-requires-clause-controllable
+prove-requires-clause-controllable g c =
+    let number : to_z w64 (of_z w64 c.args.most) ≡ c.args.most = search rules in
+    let is : c.in_ok-net.net ≡ with_goal c.args.self.now.net c.args.self.now.goal c.args.most = c.in_ok-net.ensures ∙ ap (with_goal c.args.self.now.net c.args.self.now.goal) number in
+    λ lifetimes lives. subst IsControllable (sym is) c.requires.deadline.kept
 
 pub returns : goal.returns
-returns c =
-    let kept = c.args.kept in
-    IfOk-weaker c.table_proof.result (λ (cert : Certificate). cert ≡ table_proof_of kept.shown kept.closed.table c.as_slice.result.now) (ProvesAt c.args.self.now.net c.args.self.now.goal kept.most)
-    (λ cert is. proves_at c.law_table_proofs_prove.ensures c.args.self.now.net c.args.self.now.goal kept cert c.requires (is ∙ ap (table_proof_of kept.shown kept.closed.table) c.as_slice.ensures)) c.table_proof.ensures.proof
+returns g c =
+    let number : to_z w64 (of_z w64 c.args.most) ≡ c.args.most = search rules in
+    let is : c.in_ok-net.net ≡ with_goal c.args.self.now.net c.args.self.now.goal c.args.most = c.in_ok-net.ensures ∙ ap (with_goal c.args.self.now.net c.args.self.now.goal) number in
+    subst (λ (n : Plan). IfOk c.prove.result (Proves (shown_form n))) is c.prove.ensures

@@ -1,5 +1,5 @@
 use Rattle.play_command.specs.PlayCommand.{PutsTimes}
-use Rattle.verdicts.proofs.VerdictLemmas.{verdict_put}
+use Rattle.command_contracts.proofs.PutVerdictLemmas.{verdict_put}
 use Rattle.play_command.proofs.plan_day.PlayPlanQuestion.puts_the_answer.Goals as goal
 
 pub returns : goal.returns

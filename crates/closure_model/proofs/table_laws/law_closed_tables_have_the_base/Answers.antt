@@ -1,5 +1,0 @@
-use Rattle.closure_model.proofs.BaseLemmas.{closed_has_base}
-use Rattle.closure_model.proofs.table_laws.law_closed_tables_have_the_base.Goals as goal
-
-pub returns : goal.returns
-returns c = closed_has_base

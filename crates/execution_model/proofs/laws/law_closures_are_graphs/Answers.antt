@@ -1,5 +1,0 @@
-use Rattle.execution_model.proofs.GraphLemmas.{law_closures_are_graphs}
-use Rattle.execution_model.proofs.laws.law_closures_are_graphs.Goals as goal
-
-pub returns : goal.returns
-returns c = law_closures_are_graphs

@@ -1,0 +1,4 @@
+pub mod DecisionLemmas
+pub mod SearchLemmas
+pub mod RowLemmas
+pub mod SaturationLemmas

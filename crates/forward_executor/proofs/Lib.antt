@@ -1,0 +1,3 @@
+pub mod AllComeLemmas
+pub mod ForwardExecutorLemmas
+pub mod DispatchLemmas

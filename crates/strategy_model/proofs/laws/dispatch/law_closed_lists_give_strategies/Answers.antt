@@ -1,5 +1,0 @@
-use Rattle.strategy_model.proofs.CompletenessLemmas.{law_closed_lists_give_strategies}
-use Rattle.strategy_model.proofs.laws.dispatch.law_closed_lists_give_strategies.Goals as goal
-
-pub returns : goal.returns
-returns c = law_closed_lists_give_strategies
