@@ -5,6 +5,7 @@
 #![tactic(auto)]
 
 ghost use Rattle.std.specs.Prelude.{map, string_bytes};
+ghost use Rattle.stnu_run.specs.PrintedCertificates.{RunPrintsAccepted};
 ghost use Rattle.stnu_run.specs.Table.{RefusesOutside};
 
 use plan_port::{Port, StdPort};
@@ -14,7 +15,7 @@ use std::io::ErrorKind;
 use std::process::ExitCode;
 use std::rt::Env;
 use std::thread::Threads;
-use stnu_run::{Status, law_runs_refuse_words_outside_the_table, run};
+use stnu_run::{Status, law_runs_print_accepted, law_runs_refuse_words_outside_the_table, run};
 
 /// The exit status if there is no memory for the words.
 const NO_MEMORY: u8 = 8;
@@ -30,16 +31,21 @@ fn given_words<R: Env + AllocGlobal>(rt: &R) -> Result<Vec<String>, AllocError> 
 }
 
 /// Answers words over a port. The status is 2 only if the words are not in the table of commands;
-/// and there it is, unless the refusal was not put, at 6, or there was no memory, at 8.
+/// and there it is, unless the refusal was not put, at 6, or there was no memory, at 8. What
+/// `check` or `strong` put as a certificate is accepted by `judge`, given the plan of the input
+/// before it.
 fn answer<R: Threads + Sync, P: Port>(
     rt: &R,
     alloc: Global,
     words: &Vec<String>,
     port: &mut P,
 ) -> Status
-    ensures { RefusesOutside (map string_bytes words.now.items) result }
+    ensures refuses { RefusesOutside (map string_bytes words.now.items) result }
+    ensures accepted { RunPrintsAccepted (map string_bytes words.now.items) result
+        (P.seen port.old) (P.seen port.new) }
 {
     law_runs_refuse_words_outside_the_table();
+    law_runs_print_accepted();
     run(rt, alloc, words, port)
 }
 

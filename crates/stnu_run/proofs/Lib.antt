@@ -1,3 +1,16 @@
 pub mod NamedLemmas
 pub mod OneLemmas
 pub mod TableLemmas
+pub mod ClosedTextLemmas
+pub mod ShortLineLemmas
+pub mod SpelledLemmas
+pub mod ComingLemmas
+pub mod JudgedInputLemmas
+pub mod StrongAcceptedLemmas
+pub mod AcceptedLemmas
+pub mod CheckedLemmas
+pub mod StrongPrintedLemmas
+pub mod PrintedLemmas
+pub mod PrintedPlanLemmas
+pub mod SessionProofLemmas
+pub mod DeadlineProofLemmas

@@ -1,3 +1,6 @@
 pub mod DefinedRuns
 pub mod WordLaws
 pub mod Table
+pub mod PrintedCertificates
+pub mod SessionCertificates
+pub mod DeadlineCertificates

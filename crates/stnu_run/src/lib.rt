@@ -2,10 +2,15 @@
 //! the table of its commands, outside of which words are refused.
 #![tactic(auto)]
 
+mod certificate_laws;
 mod dispatch;
 mod laws;
 mod table_laws;
 
+pub use certificate_laws::{
+    law_deadlines_are_accepted, law_printed_means_accepted, law_runs_print_accepted,
+    law_session_proofs_are_accepted,
+};
 pub use command_contracts::Status;
 pub use dispatch::run;
 pub use laws::{law_defined_run_is_one, law_feeders_change_nothing, law_workers_change_nothing};
