@@ -1,4 +1,5 @@
-//! A gate that is passed only if as many workers go over targets at once as there are.
+//! Gates of sweeps: one that is passed only if as many workers go over targets at once as there
+//! are, and one that counts the targets.
 
 use cell_table::CellGate;
 use std::sync::atomic::{AtomicBool, AtomicU64, Ordering};
@@ -47,5 +48,29 @@ impl CellGate for Meeting {
         if place < self.workers && !self.all_begin() {
             self.failed.store(true, Ordering::SeqCst);
         }
+    }
+}
+
+/// Counts how often it is called.
+#[derive(Drop)]
+pub(crate) struct CallCounter {
+    calls: AtomicU64,
+}
+
+impl CallCounter {
+    pub(crate) fn new() -> CallCounter {
+        CallCounter {
+            calls: AtomicU64::new(0),
+        }
+    }
+
+    pub(crate) fn calls(&self) -> u64 {
+        self.calls.load(Ordering::SeqCst)
+    }
+}
+
+impl CellGate for CallCounter {
+    fn before(&self, _target: u32) {
+        self.calls.fetch_add(1, Ordering::SeqCst);
     }
 }

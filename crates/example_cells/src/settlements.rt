@@ -3,7 +3,7 @@
 ghost use Rattle.std.specs.Prelude.{◌≤◌};
 ghost use Rattle.closure_model.specs.Tables.{IsFor};
 
-use crate::gates::Meeting;
+use crate::gates::{CallCounter, Meeting};
 use cell_table::{NoCellGate, Settled, close_by_cells, fits, settle};
 use example_plans::network;
 use net_model::{Network, PointId};
@@ -28,6 +28,9 @@ const PLANS: [&str; 7] = [
 /// A plan of ten points.
 const TEN: &str =
     "point a|point b|point c|point d|point e|point f|point g|point h|point i|point j|bound early b a -2|bound late a b 9|link c 2 5 d|bound after e d -1";
+
+/// A plan of three points, of which one sweep makes the closure.
+const THREE: &str = "point a|point b|point c|bound ab b a -1|bound bc c b -1";
 
 /// Whether a network closes by shared cells and so many workers as it closes without them.
 fn closes_as_without<R: Threads + Sync>(
@@ -73,6 +76,20 @@ fn meet<R: Threads + Sync>(rt: &R, alloc: Global, net: &Network, workers: u32) -
     let meeting = Meeting::of(workers as u64);
     settle(rt, alloc, net, workers, &meeting)?;
     Ok(meeting.was_met(net.points().len() as u64))
+}
+
+/// How many targets the sweeps of a network go over until it is settled.
+fn swept_count<R: Threads + Sync>(
+    rt: &R,
+    alloc: Global,
+    net: &Network,
+    workers: u32,
+) -> Result<u64, Fail>
+    requires { (1 ≤ workers) × (workers ≤ 64) }
+{
+    let counter = CallCounter::new();
+    settle(rt, alloc, net, workers, &counter)?;
+    Ok(counter.calls())
 }
 
 /// Whether a network settles to a cycle of its first point alone.
@@ -127,6 +144,16 @@ fn workers_sweep_at_once(rt: HostRuntime) -> Result<(), Fail> {
     let net = network(rt.alloc(), TEN)?;
     for workers in [2, 7] {
         assert!(rt; meet(&rt, rt.alloc(), &net, workers)?, "{workers}");
+    }
+    Ok(())
+}
+
+/// A sweep that lowered nothing would be followed by another.
+#[test]
+fn one_sweep_closes_a_short_plan(rt: HostRuntime) -> Result<(), Fail> {
+    let net = network(rt.alloc(), THREE)?;
+    for workers in [1, 2] {
+        assert_eq!(rt; swept_count(&rt, rt.alloc(), &net, workers)?, 3);
     }
     Ok(())
 }
