@@ -1,0 +1,4 @@
+pub mod SamePlayLemmas
+pub mod ShownStrategyLemmas
+pub mod RelaxationLemmas
+pub mod EditLemmas

@@ -1,0 +1,5 @@
+use Rattle.relaxation_laws.proofs.RelaxationLemmas.{law_relaxed_are_controllable}
+use Rattle.relaxation_laws.proofs.laws.law_relaxed_are_controllable.Goals as goal
+
+pub returns : goal.returns
+returns c = law_relaxed_are_controllable

@@ -1,0 +1,3 @@
+pub mod Relaxations
+pub mod DelayedStrategies
+pub mod Laws
