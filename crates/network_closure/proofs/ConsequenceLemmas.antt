@@ -16,10 +16,9 @@ use Rattle.closure_model.specs.Derivable.{IsDerivable, by_no_case, by_upper_case
 use Rattle.closure_model.specs.Keys.{Shape, shape_of, key_of, ordinary_key}
 use Rattle.closure_model.specs.Tables.{Graph, weight_of, HasEdge, HasAtMost}
 use Rattle.closure_model.proofs.Consequences.{ends_there}
-use Rattle.network_closure.specs.Saturation.{IsPartialClosure, IsOverLinks, IsAfter, IsEdgeBetween, SaturatesRemoval, SaturatesOverLinks, SaturatesAfter, SaturatesAll, SaturatesAt}
-use Rattle.closure_model.specs.Tables.{IsClosed}
+use Rattle.network_closure.specs.Saturation.{IsPartialClosure, IsOverLinks, IsAfter, IsEdgeBetween, SaturatesRemoval, SaturatesOverLinks, SaturatesAfter}
 use Rattle.net_model.specs.declared.part.Link.{Link}
-use Rattle.network_closure.proofs.PartialClosureLemmas.{derivable_is, saturated_is_closed}
+use Rattle.network_closure.proofs.PartialClosureLemmas.{derivable_is}
 
 pub if_given : {A : Type 0} (P : A → Type 0) (o : Option A) → ((x : A) → o ≡ Some x → P x) → IfSome o P
 if_given P None each = tt
@@ -162,14 +161,6 @@ held_one table from to label one edge held has begins ends labels =
     weight_is : (v w : ℤ) → Some v ≡ Some w → v ≡ w
     weight_is v w is = cc
 
-pub saturates_at : (net : Plan) (table : Graph) (from : PointId) (to : PointId) (label : Option LinkId) (found : Option Edge)
-    → MatchOption found (weight_of table (record { to = to; from = from; label = label }) ≡ None) (IsEdgeBetween table from to label) → IfSome found (SaturatesAll net table) → SaturatesAt net table from to label
-saturates_at net table from to label None none met edge has begins ends labels =
-    let keys : key_of edge ≡ record { to = to; from = from; label = label } = λ i. record { to = ends i; from = begins i; label = labels i } in
-    let both : None ≡ Some edge.weight = sym none ∙ (ap (weight_of table) (sym keys) ∙ has) in
-    absurd cc
-saturates_at net table from to label (Some one) held met edge has begins ends labels = subst (SaturatesAll net table) (held_one table from to label one edge held has begins ends labels) met
-
 pub below_next : (P : ℕ → Type 0) (n : ℕ) → ((k : ℕ) → k < n → P k) → P n → (k : ℕ) → k < n + 1 → P k
 below_next P n before here k below = by (nat_cases k n below)
   where
@@ -185,10 +176,6 @@ pub up_to : (P : ℕ → Type 0) (n most : ℕ) → most ≤ n → ((k : ℕ) �
 up_to P n most less each k below = each k (omega (arith, less, below))
 
 module _ (net : Plan) (table : Graph) (partial_closure : IsPartialClosure net table) where
-  pub saturates_into : (to : PointId) (label : Option LinkId) → ((k : ℕ) → k < length net.points → SaturatesAt net table (record { 0 = k }) to label) → (edge : Edge) → HasEdge table edge → edge.to ≡ to → edge.label ≡ label
-      → SaturatesAll net table edge
-  saturates_into to label each edge has ends labels = each edge.from.0 (derivable_is net partial_closure.plan edge (partial_closure.derivable edge has)).from_point edge has refl ends labels
-
   pub labelled_end : (link : Link) (name : LinkId) → slice_get net.links name.0 ≡ Some link → (edge : Edge) → HasEdge table edge → edge.label ≡ Some name → edge.to ≡ link.from
   labelled_end link name declared edge has labels =
       let (other, there, ends) = subst (IsLabelled net edge) labels (derivable_is net partial_closure.plan edge (partial_closure.derivable edge has)).labelled in
@@ -204,17 +191,6 @@ module _ (net : Plan) (table : Graph) (partial_closure : IsPartialClosure net ta
   pub saturates_firsts : (edge : Edge) → ((k : ℕ) → k < length net.points → (first : Edge) → HasEdge table first → first.from ≡ record { 0 = k } → SaturatesAfter table first edge) → (first : Edge) → HasEdge table first
       → SaturatesAfter table first edge
   saturates_firsts edge each first has = each first.from.0 (derivable_is net partial_closure.plan first (partial_closure.derivable first has)).from_point first has refl
-
-  pub all_meet : ((k : ℕ) → k < length net.points → (edge : Edge) → HasEdge table edge → edge.label ≡ None → edge.to ≡ record { 0 = k } → SaturatesAll net table edge)
-      → ((k : ℕ) → k < length net.links → (edge : Edge) → HasEdge table edge → edge.label ≡ Some (record { 0 = k }) → SaturatesAll net table edge) → IsClosed net table
-  all_meet ordinary labelled = saturated_is_closed net table partial_closure saturates
-    where
-      saturates : (edge : Edge) → HasEdge table edge → SaturatesAll net table edge
-      saturates edge has = by edge.label refl
-        where
-          by : (label : Option LinkId) → edge.label ≡ label → SaturatesAll net table edge
-          by None none = ordinary edge.to.0 (derivable_is net partial_closure.plan edge (partial_closure.derivable edge has)).to_point edge has none refl
-          by (Some label) some = labelled label.0 (given_if (λ (name : LinkId). name.0 < length net.links) edge.label label (label_known net partial_closure.plan edge (partial_closure.derivable edge has)) some) edge has some
 
 unfoldable pub no_link : Link
 no_link = record { from = record { 0 = 0 }; low = pos 0; high = pos 0; to = record { 0 = 0 } }

@@ -5,3 +5,4 @@ pub mod ProgressLemmas
 pub mod ShareLemmas
 pub mod VerdictLemmas
 pub mod PartialClosureLemmas
+pub mod RowTestLemmas

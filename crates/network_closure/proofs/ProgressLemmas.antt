@@ -1,5 +1,5 @@
 -- Relaxing an edge in a partial closure leaves less to lower if the edge improves its key, and never more.
-use Rattle.std.proofs.Common.{◌≡◌, ℕ, ◌+◌, ◌<◌, ◌≤◌, Bool, true, false, not, refl, ap, sym, subst, ◌∙◌, arith}
+use Rattle.std.proofs.Common.{◌≡◌, ◌<◌, ◌≤◌, Bool, true, false, not, refl, ap, sym, subst, ◌∙◌, arith}
 use Rattle.std.specs.Prelude.{if◌then◌else◌}
 use Rattle.net_model.specs.Network.{Plan}
 use Rattle.net_model.specs.declared.part.Edge.{Edge}
@@ -7,7 +7,7 @@ use Rattle.closure_model.specs.Derivable.{IsDerivable}
 use Rattle.closure_model.specs.Tables.{Graph, lowered, with_edge, has_at_most}
 use Rattle.closure_model.proofs.WeightMeasure.{measure}
 use Rattle.network_closure.specs.Saturation.{IsPartialClosure}
-use Rattle.network_closure.specs.Progress.{Progress, ImprovesForEach, relaxing_of}
+use Rattle.network_closure.specs.Progress.{Progress, ProgressGoesOn, relaxing_of}
 use Rattle.network_closure.proofs.PartialClosureLemmas.{unsaturated_leaves_less}
 
 -- ---- an edge is relaxed in a partial closure
@@ -34,17 +34,9 @@ module _ (net : Plan) (old new : Graph) (edge : Edge) (improved : Bool) (relax :
   relax_raises_nothing = (relax_by (has_at_most old edge) refl).1
 
 -- ---- as contracts see it
-module _ (net : Plan) (old new : Graph) (before : Progress) (view : relaxing_of net old ≡ before) (edge : Edge) (improved : Bool) (relax : IsRelaxing net old new edge improved) (queued_before queued_after : ℕ) where
-  pub relaxed : improved ≡ true → queued_after ≤ queued_before + 1 → ImprovesForEach before (relaxing_of net new) queued_before queued_after
-  relaxed is more = subst (λ (p : Progress). ImprovesForEach p (relaxing_of net new) queued_before queued_after) view (record {
-    net = refl;
-    left = relax_raises_nothing net old new edge improved relax;
-    for_each = let less = relax_improves net old new edge improved relax is in omega arith;
-  })
+module _ (net : Plan) (old new : Graph) (before : Progress) (view : relaxing_of net old ≡ before) (edge : Edge) (improved : Bool) (relax : IsRelaxing net old new edge improved) where
+  pub goes_on : ProgressGoesOn before (relaxing_of net new)
+  goes_on = subst (λ (p : Progress). ProgressGoesOn p (relaxing_of net new)) view (record { net = refl; left = relax_raises_nothing net old new edge improved relax })
 
-  pub kept : queued_after ≡ queued_before → ImprovesForEach before (relaxing_of net new) queued_before queued_after
-  kept same = subst (λ (p : Progress). ImprovesForEach p (relaxing_of net new) queued_before queued_after) view (record {
-    net = refl;
-    left = relax_raises_nothing net old new edge improved relax;
-    for_each = let no_more = relax_raises_nothing net old new edge improved relax in omega arith;
-  })
+  pub leaves_less : improved ≡ true → (relaxing_of net new).left < before.left
+  leaves_less is = subst (λ (p : Progress). (relaxing_of net new).left < p.left) view (relax_improves net old new edge improved relax is)

@@ -1,4 +1,5 @@
 pub mod Saturation
+pub mod RowTest
 pub mod Dense
 pub mod Laws
 pub mod Progress

@@ -1,6 +1,6 @@
 -- A partial closure: a table that is lowered by derivable edges until every edge that follows is saturated, which means that the table has
 -- its key at a weight that is no greater.
-use Rattle.std.specs.Prelude.{◌≡◌, ◌<◌, ◌+◌, ◌%◌, ℕ, length, IfSome, MatchOption, List, Option, None, Some, false}
+use Rattle.std.specs.Prelude.{◌≡◌, ◌<◌, length, IfSome, MatchOption, List, Option, None, Some, false}
 use Rattle.net_model.specs.Network.{Plan, IsPlan}
 use Rattle.net_model.specs.Rules.{no_case, upper_case, lower_case, cross_case, removal}
 use Rattle.net_model.specs.declared.ids.LinkId.{LinkId}
@@ -75,25 +75,15 @@ pub record SaturatesAfter (table : Graph) (first edge : Edge) : Type 0 where
   pub no_case : (gives : Edge) → no_case first edge ≡ Some gives → HasAtMost table gives
   pub upper_case : (gives : Edge) → upper_case first edge ≡ Some gives → HasAtMost table gives
 
+-- a table saturates an edge with every edge of the table before it
+abbrev pub SaturatesFirsts : Graph → Edge → Type 0
+SaturatesFirsts table edge = (first : Edge) → HasEdge table first → SaturatesAfter table first edge
+
 -- a table saturates an edge by the removal of its label, over links and with every edge of the table before it
 pub record SaturatesAll (net : Plan) (table : Graph) (edge : Edge) : Type 0 where
   pub removal : SaturatesRemoval net table edge
   pub over_links : SaturatesOverLinks net table edge
-  pub firsts : (first : Edge) → HasEdge table first → SaturatesAfter table first edge
-
--- a table saturates its edge of a source, a target and a label
-abbrev pub SaturatesAt : Plan → Graph → (from : PointId) → (to : PointId) → Option LinkId → Type 0
-SaturatesAt net table from to label = (edge : Edge) → HasEdge table edge → edge.from ≡ from → edge.to ≡ to → edge.label ≡ label → SaturatesAll net table edge
-
--- a table saturates the edges of a row: the ordinary edges into the point of that number, or, after the points, the edges labelled by the
--- link of the number that is left
-pub record SaturatesRow (net : Plan) (table : Graph) (row : ℕ) : Type 0 where
-  pub ordinary : row < length net.points → (edge : Edge) → HasEdge table edge → edge.label ≡ None → edge.to ≡ record { 0 = row } → SaturatesAll net table edge
-  pub labelled : (link : LinkId) → row ≡ length net.points + link.0 → (edge : Edge) → HasEdge table edge → edge.label ≡ Some link → SaturatesAll net table edge
-
--- the same for one share of all rows: those whose numbers leave that remainder
-abbrev pub SaturatesShare : Plan → Graph → (share shares : ℕ) → Type 0
-SaturatesShare net table share shares = (row : ℕ) → row < length net.points + length net.links → row % shares ≡ share → SaturatesRow net table row
+  pub firsts : SaturatesFirsts table edge
 
 -- what follows from an edge over a link
 pub record IsOverLinks (net : Plan) (edge : Edge) (given : Option Edge) : Type 0 where

@@ -5,6 +5,7 @@ ghost use Rattle.network_closure.specs.Saturation.{ClosesTo};
 
 use crate::dense_copies::{dense_of, lower_to_dense};
 use crate::depth_first::relax_depth_first;
+use crate::sequence::Sequence;
 use crate::shared_test::unsaturated;
 use labelled_graph::Table;
 use loop_finder::{Found, order};
@@ -51,12 +52,18 @@ pub fn close<R: Threads + Sync>(
         lower_to_dense(&mut table, net, &dense)?;
         match order(alloc, &table, points)? {
             Found::Cycle(_) => return Ok(None),
-            Found::Order(order) => match unsaturated(rt, alloc, &dense, net, workers)? {
-                None => return Ok(Some(Closed { table, order })),
-                Some(edge) => {
-                    dense.lower_to(&edge);
+            Found::Order(order) => {
+                let sequence = Sequence {
+                    points: order.as_slice(),
+                    is_order: true,
+                };
+                match unsaturated(rt, alloc, &dense, net, sequence, workers)? {
+                    None => return Ok(Some(Closed { table, order })),
+                    Some(edge) => {
+                        dense.lower_to(&edge);
+                    }
                 }
-            },
+            }
         }
     }
 }

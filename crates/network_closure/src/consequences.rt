@@ -4,7 +4,7 @@ ghost use Rattle.std.specs.Prelude.{◌≡◌, ◌<◌, None, Some, IfSome, Matc
 ghost use Rattle.net_model.specs.Network.{activation};
 ghost use Rattle.net_model.specs.Rules.{removal};
 ghost use Rattle.closure_model.specs.Derivable.{IsDerivable};
-ghost use Rattle.closure_model.specs.Keys.{ordinary_key, labelled_key};
+ghost use Rattle.closure_model.specs.Keys.{ordinary_key, labelled_key, IsLabelAt};
 ghost use Rattle.closure_model.specs.Tables.{weight_of, HasEdge};
 ghost use Rattle.network_closure.specs.Saturation.{IsOverLinks, IsAfter, IsEdgeBetween};
 
@@ -78,6 +78,28 @@ pub(crate) fn ordinary(table: &DenseTable, from: PointId, to: PointId) -> Option
         label: None,
         weight,
     })
+}
+
+/// The edge of a table of a source, a target and a label, or without one, if there is one.
+pub(crate) fn edge_between(
+    table: &DenseTable,
+    from: PointId,
+    to: PointId,
+    label: Option<LinkId>,
+) -> Option<Edge>
+    requires from_point { from.0 < table.now.shape.points }
+    requires to_point { to.0 < table.now.shape.points }
+    requires label { IsLabelAt table.now.shape to label }
+    ensures { MatchOption result (weight_of table.now (record {
+      to = to;
+      from = from;
+      label = label;
+    }) ≡ None) (IsEdgeBetween table.now from to label) }
+{
+    match label {
+        None => ordinary(table, from, to),
+        Some(link) => labelled(table, from, to, link),
+    }
 }
 
 /// The edge of a table from a point that is labelled by a link that begins in another, if there is

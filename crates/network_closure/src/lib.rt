@@ -9,6 +9,7 @@ mod dense_copies;
 mod depth_first;
 pub mod laws;
 mod relaxation;
+mod sequence;
 mod shared_test;
 mod table_test;
 mod unsaturated_edges;

@@ -1,6 +1,7 @@
 //! A dense table in which edges are relaxed, and the queue of the negative keys of a row.
 
-ghost use Rattle.std.specs.Prelude.{◌≡◌, ◌+◌, ◌<◌, ◌≤◌, length, IfSome, OnSome, Some, slice_get};
+ghost use Rattle.std.specs.Prelude.{◌≡◌, ◌+◌, ◌<◌, ◌≤◌, length, true, IfSome, OnSome, Some};
+ghost use Rattle.std.specs.Prelude.{slice_get};
 ghost use Rattle.std.specs.BinaryHeap.{heap_len};
 ghost use Rattle.closure_model.specs.Derivable.{IsDerivable};
 ghost use Rattle.closure_model.specs.Keys.{shape_of};
@@ -178,10 +179,32 @@ impl<'a> Relaxing<'a> {
         requires { IsDerivable self.old.net edge.now }
         ensures { ImprovesForEach self.old self.new (heap_len queue.old) (heap_len queue.new) }
     {
-        if self.table.lower_to(edge) {
+        if self.lower_to(edge) {
             enqueue(queue, edge)?;
         }
         Ok(())
+    }
+
+    /// Relaxes what a rule gave, and then the edge without its label. No key is queued.
+    fn relax_unqueued(&mut self, edge: Option<Edge>)
+        requires { IfSome edge (IsDerivable self.old.net) }
+        ensures { ProgressGoesOn self.old self.new }
+    {
+        if let Some(edge) = edge {
+            self.lower_to(&edge);
+            if let Some(without_label) = without_label(self.net, &edge) {
+                self.lower_to(&without_label);
+            }
+        }
+    }
+
+    /// Lowers the table to an edge, and says whether its key improved: then less is left.
+    fn lower_to(&mut self, edge: &Edge) -> bool
+        requires { IsDerivable self.old.net edge.now }
+        ensures goes_on { ProgressGoesOn self.old self.new }
+        ensures improved { result ≡ true → self.new.left < self.old.left }
+    {
+        self.table.lower_to(edge)
     }
 
     /// Relaxes whatever follows from an edge over a link, or with an ordinary edge of the table
@@ -236,7 +259,8 @@ impl<'a> Relaxing<'a> {
     }
 
     /// Relaxes what follows with the ordinary edge of the table from a point before an edge, if the
-    /// table has one.
+    /// table has one. If that is negative, nothing is queued: what follows with an edge before it
+    /// follows with the two edges one after another, too.
     fn settle_after(
         &mut self,
         queue: &mut KeyQueue,
@@ -249,7 +273,11 @@ impl<'a> Relaxing<'a> {
     {
         if let Some(first) = self.ordinary(from, edge.from) {
             let given = after(self.net, &first, edge);
-            self.relax(queue, given)?;
+            if first.weight < 0 {
+                self.relax_unqueued(given);
+            } else {
+                self.relax(queue, given)?;
+            }
         }
         Ok(())
     }

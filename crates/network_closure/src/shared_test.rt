@@ -1,11 +1,11 @@
 //! The test of a table, whose rows are shared among workers.
 
-ghost use Rattle.std.specs.Prelude.{◌≡◌, ◌<◌, ◌≤◌, ℕ, length, get_or, None, Some, IfOk};
-ghost use Rattle.std.specs.Prelude.{MatchOption};
-ghost use Rattle.network_closure.specs.Saturation.{IsPartialClosure, IsUnsaturated, SaturatesShare};
-ghost use Rattle.network_closure.specs.Saturation.{TestsTo};
+ghost use Rattle.std.specs.Prelude.{◌≡◌, ◌<◌, ◌≤◌, length, IfOk, MatchOption};
+ghost use Rattle.network_closure.specs.RowTest.{IsFirstFound, IsSequence, SaturatesShare};
+ghost use Rattle.network_closure.specs.Saturation.{IsPartialClosure, IsUnsaturated, TestsTo};
 
 use crate::dense::DenseTable;
+use crate::sequence::Sequence;
 use crate::unsaturated_edges::{row_count, unsaturated_in_share};
 use net_model::{Edge, Network};
 use std::alloc::{AllocError, Global};
@@ -23,18 +23,20 @@ pub(crate) fn unsaturated<R: Threads + Sync>(
     alloc: Global,
     table: &DenseTable,
     net: &Network,
+    sequence: Sequence,
     workers: u32,
 ) -> Result<Option<Edge>, AllocError>
     requires partial_closure { IsPartialClosure net.now table.now }
+    requires sequence { IsSequence table.now sequence.points.now sequence.is_order }
     requires workers { 1 ≤ workers }
     ensures { IfOk result (TestsTo net.now table.now) }
 {
     let most = row_count(net) as usize / LEAST_ROWS;
     let shares = most.min(workers as usize);
     if shares < 2 {
-        return Ok(unsaturated_in_share(table, net, 0, 1));
+        return unsaturated_in_share(alloc, table, net, sequence, 0, 1);
     }
-    unsaturated_in_shares(rt, alloc, table, net, shares)
+    unsaturated_in_shares(rt, alloc, table, net, sequence, shares)
 }
 
 /// The same by so many workers.
@@ -43,9 +45,11 @@ fn unsaturated_in_shares<R: Threads + Sync>(
     alloc: Global,
     table: &DenseTable,
     net: &Network,
+    sequence: Sequence,
     shares: usize,
 ) -> Result<Option<Edge>, AllocError>
     requires partial_closure { IsPartialClosure net.now table.now }
+    requires sequence { IsSequence table.now sequence.points.now sequence.is_order }
     requires shares { 0 < shares }
     ensures { IfOk result (TestsTo net.now table.now) }
 {
@@ -53,24 +57,26 @@ fn unsaturated_in_shares<R: Threads + Sync>(
         rt,
         alloc,
         shares,
-        &|share| -> Option<Edge>
-            requires { IsPartialClosure net.now table.now × (0 < shares) }
-            ensures { MatchOption result (SaturatesShare net.entry.now table.entry.now share
-                shares) (IsUnsaturated net.entry.now table.entry.now) }
-        { unsaturated_in_share(table, net, share, shares) },
+        &|share| -> Result<Option<Edge>, AllocError>
+            requires { IsPartialClosure net.now table.now
+                × IsSequence table.now sequence.points.now sequence.is_order × (0 < shares) }
+            ensures { IfOk result (λ found. MatchOption found (SaturatesShare net.entry.now
+                sequence.entry.is_order table.entry.now share shares)
+                (IsUnsaturated net.entry.now table.entry.now)) }
+        { unsaturated_in_share(alloc, table, net, sequence, share, shares) },
     )?;
-    Ok(first_found(found.as_slice()))
+    first_found(found.as_slice())
 }
 
-/// The first edge of a list that has one.
-fn first_found(found: &[Option<Edge>]) -> Option<Edge>
-    ensures { MatchOption result ((k : ℕ) → k < length found.now → get_or found.now k None ≡ None)
-        (λ edge. (k : ℕ) × (k < length found.now) × (get_or found.now k None ≡ Some edge)) }
+/// The first edge of a list that has one. `AllocError` comes if a share had no memory.
+fn first_found(found: &[Result<Option<Edge>, AllocError>]) -> Result<Option<Edge>, AllocError>
+    ensures { IfOk result (IsFirstFound found.now) }
 {
-    for edge in found {
+    for one in found {
+        let edge = (*one)?;
         if edge.is_some() {
-            return *edge;
+            return Ok(edge);
         }
     }
-    None
+    Ok(None)
 }

@@ -1,12 +1,14 @@
 //! The test of a table: whether it is closed.
 
-ghost use Rattle.std.specs.Prelude.{◌≤◌, IfOk};
+ghost use Rattle.std.specs.Prelude.{◌≡◌, ◌≤◌, length, IfOk};
+ghost use Rattle.network_closure.specs.RowTest.{points_below};
 ghost use Rattle.network_closure.specs.Saturation.{IsPartialClosure, TestsTo};
 
 use crate::dense_copies::dense_of;
+use crate::sequence::Sequence;
 use crate::shared_test::unsaturated;
 use labelled_graph::Table;
-use net_model::{Edge, Network};
+use net_model::{Edge, Network, PointId};
 use std::alloc::{AllocError, Global};
 use std::thread::Threads;
 
@@ -27,5 +29,21 @@ pub fn unsaturated_edge<R: Threads + Sync>(
     ensures { IfOk result (TestsTo net.now table.now) }
 {
     let dense = dense_of(alloc, net, table)?;
-    unsaturated(rt, alloc, &dense, net, workers)
+    let points = all_points(alloc, net)?;
+    let sequence = Sequence {
+        points: points.as_slice(),
+        is_order: false,
+    };
+    unsaturated(rt, alloc, &dense, net, sequence, workers)
+}
+
+/// The points of a network, by their numbers.
+fn all_points(alloc: Global, net: &Network) -> Result<Vec<PointId>, AllocError>
+    ensures { IfOk result (λ points. points.items ≡ points_below (length net.now.points)) }
+{
+    let mut all = Vec::new(alloc);
+    for point in 0..net.points().len() as u32 {
+        all.push(PointId(point))?;
+    }
+    Ok(all)
 }

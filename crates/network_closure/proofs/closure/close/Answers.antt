@@ -4,6 +4,7 @@ use Rattle.closure_model.specs.Tables.{HasEdge}
 use Rattle.network_closure.specs.Saturation.{TestsTo}
 use Rattle.network_closure.proofs.CopyLemmas.{still_partial_closure, lowered_to_closure}
 use Rattle.network_closure.proofs.PartialClosureLemmas.{base_is_partial_closure, lowered_is_partial_closure, unsaturated_leaves_less, closed_partial_closure_is_closure, derivable_key, derivable_size, found_order}
+use Rattle.network_closure.proofs.RowTestLemmas.{sequence_of_order}
 use Rattle.network_closure.proofs.closure.close.Goals as goal
 
 pub dense_of-requires : goal.dense_of-requires
@@ -11,6 +12,11 @@ dense_of-requires g c = base_is_partial_closure c.args.net.now c.in_ok-table.tab
 
 pub loop-dense-init : goal.loop-dense-init
 loop-dense-init g c = (c.in_ok-dense-2.ensures, base_is_partial_closure c.args.net.now c.in_ok-table.table c.points.ensures.sound c.in_ok-table.ensures.base c.in_ok-table.ensures.shape)
+
+pub unsaturated-requires-clause-sequence : goal.unsaturated-requires-clause-sequence
+unsaturated-requires-clause-sequence g c κs within =
+    sequence_of_order c.args.net.now c.lower_to_dense.new.table c.loop-dense.dense c.in-Order.order c.as_slice.result.now c.loop-dense.invariant.0 c.in_ok-lower_to_dense.ensures.of_derivable.fits
+    c.in_ok-lower_to_dense.ensures.has (subst (IsWhatItSays c.lower_to_dense.new.table) c.in-Order.is c.in_ok-order.ensures.says) c.as_slice.ensures
 
 pub returns-in-Cycle : goal.returns-in-Cycle
 returns-in-Cycle g c = record {

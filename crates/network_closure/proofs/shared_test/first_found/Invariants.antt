@@ -1,5 +1,8 @@
-use Rattle.std.proofs.Common.{◌≡◌, ◌<◌, ℕ, get_or, None}
+use Rattle.std.proofs.Common.{◌≡◌, ◌<◌, ℕ, get_or, Option, None}
+use Rattle.std.specs.Prelude.{Result, Ok}
+use Rattle.std.specs.declared.alloc.AllocError.{AllocError}
+use Rattle.net_model.specs.declared.part.Edge.{Edge}
 use Rattle.network_closure.proofs.shared_test.first_found.Given as goal
 
-abbrev pub invariant-loop-edge : goal.invariant-loop-edge
-invariant-loop-edge l = (k : ℕ) → k < l.edge-index → get_or l.found k None ≡ None
+abbrev pub invariant-loop-one : goal.invariant-loop-one
+invariant-loop-one l = (k : ℕ) → k < l.one-index → (d : Result (Option Edge) AllocError) → get_or l.found k d ≡ Ok None
