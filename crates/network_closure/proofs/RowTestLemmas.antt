@@ -183,19 +183,3 @@ tested_into net is_order table points to label end partial_closure sequence done
     let inside : edge.from.0 < table.shape.points = subst (λ (s : Shape). edge.from.0 < s.points) (sym partial_closure.fits) (derivable_is net partial_closure.plan edge (partial_closure.derivable edge has)).from_point in
     let (k, below, is) = sequence.whole edge.from inside in
     each k (omega (arith, below, done)) edge.from edge has (sym is) ends labels
-
-pub ordinary_row : (net : Plan) (is_order : Bool) (table : Graph) (row : ℕ) → row < length net.points → SaturatesInto net is_order table (record { 0 = row }) None → SaturatesRow net is_order table row
-ordinary_row net is_order table row low into = record {
-  ordinary = λ less edge has ends labels. into edge has ends labels;
-  labelled = λ link is edge has labels. absurd (omega (arith, low, is));
-}
-
-pub labelled_row : (net : Plan) (is_order : Bool) (table : Graph) (row : ℕ) (link : LinkId) → length net.points + link.0 ≡ row → ((edge : Edge) → HasEdge table edge → edge.label ≡ Some link → SaturatesUnlessBy net is_order table edge)
-    → SaturatesRow net is_order table row
-labelled_row net is_order table row link is each = record {
-  ordinary = λ less edge has ends labels. absurd (omega (arith, less, is));
-  labelled = λ other same edge has labels. each edge has (labels ∙ ap (λ (k : ℕ). Some (record { 0 = k })) (number other same));
-}
-  where
-    number : (other : LinkId) → row ≡ length net.points + other.0 → other.0 ≡ link.0
-    number other same = omega (arith, is, same)
