@@ -33,7 +33,7 @@ from shared.places import ROOT, TOOLS
 from shared.progress import is_quiet
 
 # What the checked program depends on beside its sources, and how it is called.
-COMPILER = [TOOLS / "start" / it for it in ("bitcode.py", "compile.py", "needed.py", "parts.py")]
+COMPILER = [TOOLS / "start" / it for it in ("compile.py", "needed.py", "parts.py", "split.c")]
 COMPILE = TOOLS / "compile-checked"
 # What is changed within this time of another change may bear the same time (nanoseconds).
 TICK = 20_000_000

@@ -3,14 +3,16 @@
 import contextlib
 import io
 import os
+import subprocess
 import tempfile
 import unittest
 from pathlib import Path
 from unittest import mock
 
+from shared.making import Guarded, kit
 from shared.progress import Progress
-from start.bitcode import Bits, Module, OtherForm, Record
 from start.needed import LEFT_OUT, Source, Unread, copies, read_reached, reached_in, write_reached
+from start.parts import Compiling, OtherForm, run
 
 SOURCE = """//! A list.
 pub struct List(u8);
@@ -101,24 +103,132 @@ class Reached(unittest.TestCase):
             self.assertEqual(read_reached(Path(room, "reached")), {"core": names})
 
 
-class Split(unittest.TestCase):
-    def test_another_form_is_refused(self):
-        for data in (b"", b"ELF..", b"BC\xc0\xde" + bytes(8)):
-            with self.assertRaises(OtherForm):
-                Module(data)
+class Written:
+    """A module in the kit's form, written bit by bit."""
 
-    def test_numbers_of_a_record_change(self):
-        bits = Bits()
-        # (abbreviation, code, count, and the numbers 5, 40 and 7 in parts of six bits)
-        for value, size in ((3, 3), (8, 6), (3, 6), (5, 6), (40, 6), (1, 6), (7, 6)):
-            bits.put(value, size)
-        bits.align()
-        record = Record(bytes(bits.made), 0, 3)
-        self.assertEqual((record.code, record.values), (8, [5, 40, 7]))
-        changed = Bits()
-        changed.put(*record.changed({0: 1, 1: 0, 2: 9}))
-        changed.align()
-        self.assertEqual(Record(bytes(changed.made), 0, 3).values, [1, 0, 9])
+    def __init__(self):
+        self.made, self.rest, self.count = bytearray(b"BC\xc0\xde"), 0, 0
+
+    def put(self, value, size):
+        self.rest |= value << self.count
+        self.count += size
+        while self.count >= 8:
+            self.made.append(self.rest & 255)
+            self.rest >>= 8
+            self.count -= 8
+
+    def pieces(self, value, size):
+        more = 1 << (size - 1)
+        while value >= more:
+            self.put(value & (more - 1) | more, size)
+            value >>= size - 1
+        self.put(value, size)
+
+    def align(self):
+        while self.count or len(self.made) % 4:
+            self.put(0, 1)
+
+    def record(self, code, *values):
+        self.put(3, 3)
+        for number in (code, len(values), *values):
+            self.pieces(number, 6)
+
+    @contextlib.contextmanager
+    def block(self, kind, outer=3):
+        self.put(1, outer)
+        self.pieces(kind, 8)
+        self.pieces(3, 4)
+        self.align()
+        self.made += bytes(4)
+        first = len(self.made)
+        yield
+        self.put(0, 3)
+        self.align()
+        self.made[first - 4 : first] = ((len(self.made) - first) // 4).to_bytes(4, "little")
+
+
+NAMES = "one_function two_functions small_function alone_function".split()
+
+
+def module_in_the_form(called_type=1):
+    """A module of these functions in the kit's form: the first two call the third; nobody calls the
+    last."""
+    written = Written()
+    with written.block(13, 2):
+        written.record(2, 0)
+    with written.block(8, 2):
+        written.record(1, 2)
+        with written.block(17):
+            # (two types: nothing, and functions that take and give that)
+            written.record(1, 2)
+            written.record(2)
+            written.record(21, 0, 0)
+        first = 0
+        for name, linkage in zip(NAMES, (0, 0, 3, 3)):
+            written.record(8, first, len(name), 1, 0, 0, linkage, 0, 0, 0, 0, 0, 0)
+            first += len(name)
+        # (bodies begin with a full word, as behind these constants, which are none)
+        with written.block(11):
+            pass
+        for number in range(4):
+            with written.block(12):
+                written.record(1, 1)
+                if number < 2:
+                    # (the function whose number is by two less than that of the next value)
+                    written.record(34, 0, 1 << 15, called_type, 2)
+                written.record(10)
+    with written.block(23, 2):
+        # (an abbreviation of two parts: the number one, and bytes)
+        for value, size in ((2, 3), (2, 5), (1, 1), (1, 8), (0, 1), (5, 3), (4, 3)):
+            written.put(value, size)
+        written.pieces(first, 6)
+        written.align()
+        written.made += "".join(NAMES).encode()
+        written.align()
+    return bytes(written.made)
+
+
+class Split(unittest.TestCase):
+    """Modules that are compiled in two parts."""
+
+    def setUp(self):
+        self.room = self.enterContext(tempfile.TemporaryDirectory())
+        self.guarded = self.enterContext(Guarded())
+        words = "--target=x86_64-unknown-linux-gnu -ffunction-sections -c -x ir module.bc -o module.o -O0".split()
+        self.compiling = Compiling(self.guarded, words, Path(self.room))
+        self.module = Path(self.room, "module.bc")
+
+    def test_each_part_has_its_own_and_copies_of_what_is_small(self):
+        self.module.write_bytes(module_in_the_form())
+        parts, names = self.compiling.split(self.module, 2)
+        self.assertEqual(names, NAMES)
+        objects = self.compiling.side_by_side(parts, lambda _: None)
+        # (what both had to themselves would be refused, as would be what neither has)
+        made = Path(self.room, "made.so")
+        run(self.guarded, [kit() / "toolchain/bin/ld.lld", "-shared", "-z", "defs", "-o", made, *objects])
+        for name, count in zip(NAMES, (1, 1, 0, 0)):
+            self.assertEqual(sum(name.encode() in it.read_bytes() for it in objects), count, name)
+
+    def test_a_call_that_is_read_wrongly_is_noticed(self):
+        self.module.write_bytes(module_in_the_form(called_type=0))
+        with self.assertRaisesRegex(OtherForm, "without a type of functions"):
+            self.compiling.split(self.module, 2)
+
+    def test_another_form_is_refused(self):
+        for data in (b"", b"ELF..", b"BC\xc0\xde" + bytes(8), module_in_the_form()[:-64]):
+            self.module.write_bytes(data)
+            with self.assertRaises(OtherForm):
+                self.compiling.split(self.module, 2)
+
+    def test_another_form_is_compiled_in_one_piece_which_is_said(self):
+        words = [kit() / "toolchain/bin/clang", "--no-default-config", "-emit-llvm", "-c", "-x", "c", "-", "-o", self.module]
+        subprocess.run(words, input=b"void one_function(void) {}", check=True)
+        said = io.StringIO()
+        with contextlib.redirect_stderr(said):
+            objects, names = self.compiling.compiled(self.module, lambda _: None)
+        self.assertEqual((objects, names), ([Path(self.room, "whole.o")], []))
+        self.assertIn(b"one_function", objects[0].read_bytes())
+        self.assertIn("of another form", said.getvalue())
 
 
 class Told(unittest.TestCase):
