@@ -3,3 +3,5 @@ pub mod HistoryLemmas
 pub mod TraceLemmas
 pub mod LeastLemmas
 pub mod TurnLemmas
+pub mod ShortestWalkLemmas
+pub mod FirstLoopLemmas

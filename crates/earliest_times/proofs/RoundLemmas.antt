@@ -95,7 +95,19 @@ round_raises edges place before after raised round inside point_inside less =
     kept point different (Some k) its =
         let same = at_other point different in
         let more = its.more in
-        record { within = its.within; begins = its.begins; reached = same ∙ its.reached; more = omega (arith, more, same) }
+        record {
+          within = its.within;
+          begins = its.begins;
+          reached = same ∙ its.reached;
+          more = omega (arith, more, same);
+          first = λ other earlier begins. let below = its.first other earlier begins in omega (arith, below, same);
+        }
+
+    not_before : (other : ℕ) → other < place → (edge_at_place edges other).from.0 ≡ from → required_moment before (edge_at_place edges other) < new
+    not_before other earlier begins =
+        let its = round.asks other earlier in
+        let at : get_or after (edge_at_place edges other).from.0 0 ≡ get_or after from 0 = ap (λ (k : ℕ). get_or after k 0) begins in
+        omega (arith, its, at, less)
 
     became : (point : ℕ) → point < length before → Became edges before (set after from new) point (get_or (set raised from (Some place)) point None)
     became point within = elim (cases_eq point from) [
@@ -104,7 +116,9 @@ round_raises edges place before after raised round inside point_inside less =
           let now : get_or (set after from new) point 0 ≡ new = ap (λ (k : ℕ). get_or (set after from new) k 0) same ∙ here in
           let grown = round_later edges place before after raised round from point_inside in
           let old : get_or before point 0 ≡ get_or before from 0 = ap (λ (k : ℕ). get_or before k 0) same in
-          subst (Became edges before (set after from new) point) (sym mark) (record { within = inside; begins = sym same; reached = now; more = omega (arith, now, grown, old, less) })
+          let first = λ (other : ℕ) (earlier : other < place) (begins : (edge_at_place edges other).from.0 ≡ point). not_before other earlier (begins ∙ same) in
+          subst (Became edges before (set after from new) point) (sym mark)
+          (record { within = inside; begins = sym same; reached = now; more = omega (arith, now, grown, old, less); first = λ other earlier begins. let below = first other earlier begins in omega (arith, below, now) })
       | inr different ↦
           let mark : get_or (set raised from (Some place)) point None ≡ get_or raised point None = get_or-set_other raised from point (Some place) None different in
           subst (Became edges before (set after from new) point) (sym mark) (kept point different (get_or raised point None) (round.became point within))

@@ -1,11 +1,11 @@
 -- The points that were raised, traced back level by level, come to a loop.
-use Rattle.std.proofs.Common.{◌≡◌, ◌≢◌, ℕ, suc, ◌+◌, ◌-◌, ◌<◌, ◌≤◌, ℤ, pos, ◌+ℤ◌, ◌<ℤ◌, true, false, List, [], ◌∷◌, ◌++◌, Option, Some, None, map, length, get_or, drop, eqb, refl, ap, sym, subst, ◌∙◌, inl, inr, arith}
-use Rattle.std.specs.List.{All, AllByRecursion, IsDistinct, list_any, position}
+use Rattle.std.proofs.Common.{◌≡◌, ◌≢◌, ℕ, suc, ◌+◌, ◌-◌, ◌<◌, ◌≤◌, pos, ◌+ℤ◌, ◌<ℤ◌, true, false, List, [], ◌∷◌, ◌++◌, Option, Some, None, map, length, get_or, is_some, take, drop, eqb, refl, ap, sym, subst, ◌∙◌, inl, inr, append_assoc, arith}
+use Rattle.std.specs.List.{All, AllByRecursion, AllPairs, IsDistinct, list_any, position}
 use Rattle.std.specs.Option.{IsSome}
 use Rattle.std.specs.Prelude.{◌==◌}
 use Rattle.std.proofs.lemmas.Bool.{cases_lt, eqb-true, eqb-false, ne_eqb, or_cases, true≢false}
 use Rattle.std.proofs.lemmas.Int.{ints}
-use Rattle.std.proofs.lemmas.List.{length-append, length-map, length-drop, get_or_append_left, get_or_at, get_or-drop, drop-append-le, map-append, drop_at, get_or_default}
+use Rattle.std.proofs.lemmas.List.{length-append, length-map, length-drop, get_or_append_left, get_or_at, get_or-drop, drop-append-le, map-append, drop_at, get_or_default, take-append-drop}
 use Rattle.std.proofs.lemmas.List.Quantifiers.{position-Some}
 use Rattle.std.proofs.lemmas.Map.Steps.{length-le_from_distinct_below}
 use Rattle.net_model.proofs.Positions.{fails_from_None}
@@ -15,8 +15,11 @@ use Rattle.strategy_model.specs.Edges.{IsWalk, total}
 use Rattle.strategy_model.proofs.MomentLemmas.{same_from_number}
 use Rattle.earliest_times.specs.Rounds.{no_edge, edge_at_place, IsRaisedBy}
 use Rattle.earliest_times.specs.History.{IsHistory, AreWithin}
-use Rattle.earliest_times.specs.Least.{IsLoop}
+use Rattle.earliest_times.specs.Least.{begins as start_of, IsLoop}
+use Rattle.earliest_times.specs.FirstLoops.{IsLoopOfFirstWalk}
 use Rattle.earliest_times.proofs.HistoryLemmas.{table_length, raised_at, raised_before, raised_value, history_rises}
+use Rattle.earliest_times.proofs.ShortestWalkLemmas.{IsFirstFrom, first_more, first_from, first_walk}
+use Rattle.earliest_times.proofs.TurnLemmas.{loop_some}
 
 -- ---- walks that go on by one edge
 walk_more : (from : PointId) (edges : List Edge) (edge : Edge) (to : PointId) → IsWalk from edges to → edge.from ≡ to → IsWalk from (edges ++ edge ∷ []) edge.to
@@ -225,18 +228,19 @@ module _ (edges : List Edge) (points : ℕ) (levels : List (List (Option ℕ))) 
           ]
 
 -- a trace of some history
-pub record Traced (edges : List Edge) (points : ℕ) (levels : List (List (Option ℕ))) (walk : List ℕ) (point : PointId) (left : ℕ) : Type 0 where
+pub record Traced (edges : List Edge) (points : ℕ) (levels : List (List (Option ℕ))) (start : PointId) (walk : List ℕ) (point : PointId) (left : ℕ) : Type 0 where
   pub now : List ℕ
   pub history : IsHistory edges points levels now
   pub within : AreWithin points edges
   pub trace : IsTrace edges points levels now history within walk point left
+  pub whole : (rest : List ℕ) → IsFirstFrom edges points levels now history within left point rest → IsFirstFrom edges points levels now history within (length levels) start (walk ++ rest)
 
 pub traced_begins : (edges : List Edge) (points : ℕ) (levels : List (List (Option ℕ))) (start : PointId) → (now : List ℕ) × IsHistory edges points levels now → AreWithin points edges → start.0 < points
-    → IsSome (get_or (get_or levels (length levels - 1) []) start.0 None) → Traced edges points levels [] start (length levels)
+    → IsSome (get_or (get_or levels (length levels - 1) []) start.0 None) → Traced edges points levels start [] start (length levels)
 traced_begins edges points levels start its within inside raised =
-    record { now = its.0; history = its.1; within = within; trace = trace_begins edges points levels its.0 its.1 within start inside raised }
+    record { now = its.0; history = its.1; within = within; trace = trace_begins edges points levels its.0 its.1 within start inside raised; whole = λ rest first. first }
 
-module _ (edges : List Edge) (points : ℕ) (levels : List (List (Option ℕ))) (walk : List ℕ) (point : PointId) (left : ℕ) (traced : Traced edges points levels walk point left) where
+module _ (edges : List Edge) (points : ℕ) (levels : List (List (Option ℕ))) (start : PointId) (walk : List ℕ) (point : PointId) (left : ℕ) (traced : Traced edges points levels start walk point left) where
   pub traced_places : All (λ place. place < length edges) walk
   traced_places i d inside =
       let count = traced.trace.count in
@@ -244,8 +248,8 @@ module _ (edges : List Edge) (points : ℕ) (levels : List (List (Option ℕ))) 
       let raised = raised_at edges points levels traced.now traced.history (length levels - 1 - i) (omega (arith, count, inside)) (edge_at_place edges (get_or walk i 0)).from.0 (get_or walk i 0) step.inside step.raised in
       subst (λ (k : ℕ). k < length edges) (get_or_default walk i 0 d inside) raised.within
 
-  pub traced_first : (first : ℕ) → position (λ (place : ℕ). (edge_at_place edges place).from.0 == point.0) walk ≡ Some first → first < length walk
-  traced_first first found = (position-Some (λ (place : ℕ). (edge_at_place edges place).from.0 == point.0) walk first 0 found).0
+  pub traced_inside : (first : ℕ) → position (λ (place : ℕ). (edge_at_place edges place).from.0 == point.0) walk ≡ Some first → first < length walk
+  traced_inside first found = (position-Some (λ (place : ℕ). (edge_at_place edges place).from.0 == point.0) walk first 0 found).0
 
   pub traced_found : (first : ℕ) → position (λ (place : ℕ). (edge_at_place edges place).from.0 == point.0) walk ≡ Some first → IsLoop edges (drop first walk)
   traced_found first found =
@@ -270,7 +274,7 @@ module _ (edges : List Edge) (points : ℕ) (levels : List (List (Option ℕ))) 
   traced_place place some is = (raised_at edges points levels traced.now traced.history (left - 1) (traced_level some) point.0 place traced.trace.inside is).within
 
   pub traced_more : (place : ℕ) → 1 ≤ left → position (λ (place : ℕ). (edge_at_place edges place).from.0 == point.0) walk ≡ None → get_or (get_or levels (left - 1) []) point.0 None ≡ Some place
-      → Traced edges points levels (walk ++ place ∷ []) (edge_at_place edges place).to (left - 1)
+      → Traced edges points levels start (walk ++ place ∷ []) (edge_at_place edges place).to (left - 1)
   traced_more place some none is =
       let same : left ≡ suc (left - 1) = omega (arith, some) in
       let trace = subst (λ (l : ℕ). IsTrace edges points levels traced.now traced.history traced.within walk point l) same traced.trace in
@@ -280,7 +284,37 @@ module _ (edges : List Edge) (points : ℕ) (levels : List (List (Option ℕ))) 
         within = traced.within;
         trace = trace_more edges points levels traced.now traced.history traced.within walk point (left - 1) place trace
             (λ i inside. eqb-false (edge_at_place edges (get_or walk i 0)).from.0 point.0 (fails_from_None (λ (place : ℕ). (edge_at_place edges place).from.0 == point.0) walk none i 0 inside)) is;
+        whole = λ rest its.
+            let marked : get_or (get_or levels (left - 1) []) point.0 None ≡ Some place = is in
+            let longer = first_more edges points levels traced.now traced.history traced.within (left - 1) (traced_level some) point traced.trace.inside place marked rest its in
+            subst (IsFirstFrom edges points levels traced.now traced.history traced.within (length levels) start) (sym (append_assoc walk (place ∷ []) rest))
+            (traced.whole (place ∷ rest) (subst (λ (l : ℕ). IsFirstFrom edges points levels traced.now traced.history traced.within l point (place ∷ rest)) (sym same) longer));
       }
 
-pub traced_over : (edges : List Edge) (points : ℕ) (levels : List (List (Option ℕ))) (walk : List ℕ) (point : PointId) → Traced edges points levels walk point 0 → points < length levels → ⊥
-traced_over edges points levels walk point traced many = trace_over edges points levels traced.now traced.history traced.within walk point traced.trace many
+  -- if a point comes twice, the walk from it on is the first loop on the first shortest walk
+  pub traced_first : (first : ℕ) → position (λ (place : ℕ). (edge_at_place edges place).from.0 == point.0) walk ≡ Some first → length levels ≡ suc points → start.0 < points
+      → position (λ (by : Option ℕ). is_some by) (get_or levels points []) ≡ Some start.0 → IsLoopOfFirstWalk points edges (drop first walk)
+  traced_first first found count is_start starts =
+      let loop = traced_found first found in
+      let size = traced.trace.count in
+      let (rest, its) = first_from edges points levels traced.now traced.history traced.within left (omega (arith, size)) point traced.trace.inside traced.trace.here in
+      record {
+        walk = walk ++ rest;
+        is = first_walk edges points levels traced.now traced.history traced.within start is_start count starts (walk ++ rest) (traced.whole rest its);
+        first = record {
+          before = take first walk;
+          after = rest;
+          parts = ap (λ (ns : List ℕ). ns ++ rest) (sym (take-append-drop first walk)) ∙ append_assoc (take first walk) (drop first walk) rest;
+          point = loop.negative.0;
+          closed = loop.negative.1;
+          some = loop_some edges (drop first walk) loop;
+          once = subst (AllPairs (λ one other. start_of edges one ≢ start_of edges other)) (sym (take-append-drop first walk)) once;
+        };
+      }
+    where
+      once : AllPairs (λ one other. start_of edges one ≢ start_of edges other) walk
+      once i j d less inside same =
+          traced.trace.once i j less inside (ap (start_of edges) (get_or_default walk i 0 d (omega (arith, less, inside))) ∙ same ∙ ap (start_of edges) (get_or_default walk j d 0 inside))
+
+pub traced_over : (edges : List Edge) (points : ℕ) (levels : List (List (Option ℕ))) (start : PointId) (walk : List ℕ) (point : PointId) → Traced edges points levels start walk point 0 → points < length levels → ⊥
+traced_over edges points levels start walk point traced many = trace_over edges points levels traced.now traced.history traced.within walk point traced.trace many

@@ -7,8 +7,6 @@ use Rattle.net_model.specs.declared.part.Edge.{Edge}
 use Rattle.strategy_model.specs.Situations.{moment_in}
 use Rattle.strategy_model.specs.Edges.{HoldsIn, IsNegativeLoop}
 use Rattle.earliest_times.specs.Rounds.{edge_at_place}
-use Rattle.earliest_times.specs.declared.least.MomentsOrLoop.{MomentsOrLoop}
-use Rattle.earliest_times.specs.declared.least.MomentsOrLoop.TheVariants.{Moments, Loop}
 
 -- moments that keep every edge, one for each point, and no others that keep them have a point sooner
 pub record AreLeast (points : ℕ) (edges : List Edge) (moments : List ℕ) : Type 0 where
@@ -35,8 +33,3 @@ pub record IsLowestAt (edges : List Edge) (places : List ℕ) (at : ℕ) : Type 
 pub record IsLoopFromLowest (edges : List Edge) (places : List ℕ) : Type 0 where
   pub loop : IsLoop edges places
   pub lowest : IsLowestAt edges places 0
-
--- what is found of edges
-abbrev pub FindsLeast : ℕ → List Edge → MomentsOrLoop → Type 0
-FindsLeast points edges (Moments moments) = AreLeast points edges moments
-FindsLeast points edges (Loop places) = IsLoopFromLowest edges places

@@ -3,7 +3,7 @@
 ghost use Rattle.std.specs.Prelude.{◌≡◌, ◌≤◌, ◌<◌, ℕ, length, unsigned_abs, is_some, IfOk};
 ghost use Rattle.std.specs.List.{All, position};
 ghost use Rattle.earliest_times.specs.History.{AreWithin};
-ghost use Rattle.earliest_times.specs.Least.{FindsLeast};
+ghost use Rattle.earliest_times.specs.FirstLoops.{FindsLeast};
 
 use crate::rounds::raise;
 use crate::trace::trace;
@@ -17,16 +17,18 @@ pub enum MomentsOrLoop {
     /// The least moments that keep them, one for each point.
     Moments(Items<u64>),
     /// The places of edges that are a closed walk of negative total, in which no point comes twice,
-    /// from its point of least number on.
+    /// from its point of least number on: the first loop on the first shortest walk of more edges
+    /// than there are points.
     Loop(Items<usize>),
 }
 
 /// The least moments that keep edges (`to - from <= weight` for each) between so many points, at
 /// most 2,000, one for each: no others that keep them have a point sooner. Or a loop of edges of
 /// negative total; such a loop excludes moments that keep the edges (`law_loops_exclude_schedules`
-/// of strategy_model), so it comes exactly if there are none. Weights are at most 5,000,000,000,000
-/// moments in size. It makes at most one round over the edges more than there are points, which is
-/// a count in its body and no clause. `AllocError` comes only for want of memory.
+/// of strategy_model), so it comes exactly if there are none. Which loop comes, if there are
+/// several, the edges in their order tell (`law_first_loop_is_one`). Weights are at most
+/// 5,000,000,000,000 moments in size. It makes at most one round over the edges more than there are
+/// points, which is a count in its body and no clause. `AllocError` comes only for want of memory.
 pub fn least_moments(
     alloc: Global,
     points: usize,

@@ -1,12 +1,13 @@
 //! The loop of edges behind a point that was raised too often.
 
 ghost use Rattle.std.specs.Prelude.{◌≡◌, ◌==◌, ◌<◌, ◌+◌, ◌-◌, [], ℕ, List, length, drop, ◌≤◌, IfOk};
-ghost use Rattle.std.specs.Prelude.{None};
+ghost use Rattle.std.specs.Prelude.{None, Some, is_some};
 ghost use Rattle.std.specs.List.{All, position, slice_index_or};
 ghost use Rattle.std.specs.Option.{IsSome};
 ghost use Rattle.earliest_times.specs.Rounds.{edge_at_place};
 ghost use Rattle.earliest_times.specs.History.{IsHistory, AreWithin};
 ghost use Rattle.earliest_times.specs.Least.{IsLoop};
+ghost use Rattle.earliest_times.specs.FirstLoops.{IsLoopOfFirstWalk};
 
 use net_model::{Edge, Items, PointId};
 use std::alloc::{AllocError, Global};
@@ -20,9 +21,9 @@ fn place_of(edges: &[Edge], walk: &[usize], point: PointId) -> Option<usize>
     walk.iter().position(|place| edges[*place].from == point)
 }
 
-/// A loop of edges that raised points, traced back from a point that was raised in the last of more
-/// rounds than there are points. The edge that raised a point in a round ends in a point that was
-/// raised in the round before.
+/// A loop of edges that raised points, traced back from the first point that was raised in the last
+/// of one round more than there are points. The edge that raised a point in a round ends in a point
+/// that was raised in the round before; so they are the first shortest walk from that point.
 pub(crate) fn trace(
     alloc: Global,
     edges: &[Edge],
@@ -32,11 +33,14 @@ pub(crate) fn trace(
 ) -> Result<Vec<usize>, AllocError>
     requires history { (now : List ℕ) × IsHistory edges.now points levels.now now }
     requires within { AreWithin points edges.now }
-    requires many { points < length levels.now }
+    requires many { length levels.now ≡ points + 1 }
     requires start { start.0 < points }
     requires raised { IsSome (slice_index_or (slice_index_or levels.now (length levels.now - 1) [])
         start.0 None) }
-    ensures { IfOk result (λ walk. IsLoop edges.now walk.items) }
+    requires first { position (λ by. is_some by) (slice_index_or levels.now points [])
+        ≡ Some start.0 }
+    ensures is_loop { IfOk result (λ walk. IsLoop edges.now walk.items) }
+    ensures is_first { IfOk result (λ walk. IsLoopOfFirstWalk points edges.now walk.items) }
 {
     let mut walk = Vec::new(alloc);
     let mut point = start;

@@ -3,6 +3,7 @@
 ghost use Rattle.std.specs.Prelude.{◌<◌, length, IfOk};
 ghost use Rattle.std.specs.List.{All};
 ghost use Rattle.earliest_times.specs.Least.{IsLoop, IsLowestAt, IsLoopFromLowest};
+ghost use Rattle.earliest_times.specs.FirstLoops.{IsTurnedToLowest};
 
 use net_model::Edge;
 use std::alloc::{AllocError, Global};
@@ -14,7 +15,8 @@ pub(crate) fn from_lowest(
     walk: &[usize],
 ) -> Result<Vec<usize>, AllocError>
     requires { IsLoop edges.now walk.now }
-    ensures { IfOk result (λ turned. IsLoopFromLowest edges.now turned.items) }
+    ensures from_lowest { IfOk result (λ turned. IsLoopFromLowest edges.now turned.items) }
+    ensures turned { IfOk result (λ turned. IsTurnedToLowest edges.now walk.now turned.items) }
 {
     let first = lowest(edges, walk);
     let mut turned = Vec::from_slice(alloc, &walk[first..])?;

@@ -1,5 +1,4 @@
 pub mod NamedLemmas
-pub mod OneLemmas
 pub mod TableLemmas
 pub mod ClosedTextLemmas
 pub mod ShortLineLemmas

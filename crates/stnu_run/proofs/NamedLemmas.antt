@@ -1,20 +1,16 @@
 -- Whatever the words are, their program is lawful if that of each command is.
-use Rattle.std.proofs.Common.{◌≡◌, ℕ, Bool, true, false, List, [], ◌∷◌, Option, Some, None}
-use Rattle.std.specs.Str.{bytes_eq}
-use Rattle.command_contracts.specs.Programs.{Program, DefinesOne, PrintsOne, RunsEndByCause, when◌run◌else◌}
-use Rattle.stnu_run.specs.DefinedRuns.{AreOfOneAnswer, strong_word, program_named, program_for, program_of, command_of}
+use Rattle.std.proofs.Common.{ℕ, List, Option, Some, None}
+use Rattle.command_contracts.specs.Programs.{DefinesOne, PrintsOne, RunsEndByCause}
+use Rattle.stnu_run.specs.DefinedRuns.{program_named, program_for, program_of, command_of}
 use Rattle.command_contracts.proofs.ProgramLemmas.{refused_defines_one}
 use Rattle.command_contracts.proofs.StatusLemmas.{refused_causes}
 
--- of another command than the one that is not asked for
-pub other_defines_one : (so : Bool) (one other : Program) → so ≡ false → DefinesOne other → DefinesOne (when so run one else other)
-other_defines_one true one other wrong second = absurd cc
-other_defines_one false one other is second = second
+named_defines_one : ((command : List ℕ) (words : List (List ℕ)) → DefinesOne (program_named command words)) → (named : Option (List ℕ × List (List ℕ))) → DefinesOne (program_for named)
+named_defines_one each (Some (command, words)) = each command words
+named_defines_one each None = refused_defines_one
 
-pub words_define_one : ((command : List ℕ) (words : List (List ℕ)) → bytes_eq command strong_word ≡ false → DefinesOne (program_named command words)) → (words : List (List ℕ)) → AreOfOneAnswer words → DefinesOne (program_of words)
-words_define_one each [] other = refused_defines_one
-words_define_one each (program ∷ []) other = refused_defines_one
-words_define_one each (program ∷ command ∷ words) other = each command words other
+pub words_define_one : ((command : List ℕ) (words : List (List ℕ)) → DefinesOne (program_named command words)) → (words : List (List ℕ)) → DefinesOne (program_of words)
+words_define_one each words = named_defines_one each (command_of words)
 
 named_prints_one : ((command : List ℕ) (words : List (List ℕ)) → PrintsOne (program_named command words)) → (named : Option (List ℕ × List (List ℕ))) → PrintsOne (program_for named)
 named_prints_one each (Some (command, words)) = each command words

@@ -1,5 +1,5 @@
 -- The commands of the program by their words, and the defined run: what the program puts for words and an input.
-use Rattle.std.specs.Prelude.{◌≡◌, ◌⊎◌, ℕ, List, ◌∷◌, codes, Option, Some, None, false, if◌then◌else◌}
+use Rattle.std.specs.Prelude.{ℕ, List, ◌∷◌, codes, Option, Some, None}
 use Rattle.std.specs.Str.{bytes_eq}
 use Rattle.check_command.specs.CheckPromise.{check_program}
 use Rattle.check_command.specs.CheckAnswers.{check_request, check_syntax}
@@ -11,21 +11,18 @@ use Rattle.play_command.specs.PlayCommand.{play_request, play_syntax}
 use Rattle.run_command.specs.RunPromise.{run_program}
 use Rattle.run_command.specs.RunCommand.{run_request, run_syntax}
 use Rattle.show_command.specs.ShowAnswers.{show_request, show_program, show_syntax}
-use Rattle.command_engine.specs.Single.{IsPrefix}
 use Rattle.command_contracts.specs.Programs.{Program, Defines, when◌run◌else◌}
 use Rattle.fleet_command.specs.FleetCommand.{fleet_request, fleet_syntax}
 use Rattle.fleet_command.specs.FleetPromise.{fleet_program}
-use Rattle.command_contracts.specs.Requests.{requested_by, program_by, refuses_words}
+use Rattle.command_contracts.specs.Requests.{program_by, refuses_words}
 use Rattle.session_command.specs.SessionPromise.{session_program}
 use Rattle.session_command.specs.Sessions.{session_request, session_syntax}
 use Rattle.command_contracts.specs.declared.status.Status.{Status}
 use Rattle.strong_command.specs.StrongAnswers.{strong_request, strong_program, strong_syntax}
-use Rattle.strong_command.specs.OneAnswer.{PutsNone}
-use Rattle.strong_command.specs.declared.strong_question.StrongQuestion.{StrongQuestion}
 use Rattle.deadline_command.specs.DeadlineAnswers.{deadline_request, deadline_syntax}
 use Rattle.deadline_command.specs.DeadlinePromise.{deadline_program}
 
--- the word of the command whose certificate of a refusal is left open
+-- the word of the command `strong`
 abbrev pub strong_word : List ℕ
 strong_word = codes "strong"
 
@@ -53,11 +50,6 @@ abbrev pub program_for : Option (List ℕ × List (List ℕ)) → Program
 program_for (Some (command, words)) = program_named command words
 program_for None = refuses_words
 
--- the words are not those of `strong`
-abbrev pub AreOfOneAnswer : List (List ℕ) → Type 0
-AreOfOneAnswer (program ∷ command ∷ words) = bytes_eq command strong_word ≡ false
-AreOfOneAnswer others = Unit {0}
-
 -- the program of the words
 abbrev pub program_of : List (List ℕ) → Program
 program_of words = program_for (command_of words)
@@ -65,23 +57,3 @@ program_of words = program_for (command_of words)
 -- the defined run: the bytes and the exit status for the words and an input
 abbrev pub DefinedRun : (words : List (List ℕ)) (input put : List ℕ) → Status → Type 0
 DefinedRun words input put status = Defines (program_of words) input put status
-
--- what the words ask of `strong`, if they are its own
-abbrev pub strong_request_of : List (List ℕ) → Option StrongQuestion
-strong_request_of (program ∷ command ∷ words) = if bytes_eq command strong_word then requested_by strong_syntax strong_request words else None
-strong_request_of others = None
-
--- the words are those of `strong`, and it puts that the network of the input has no strong schedule
-abbrev pub StrongPutsNone : (words : List (List ℕ)) (input put : List ℕ) → Type 0
-StrongPutsNone words input put = (query : StrongQuestion) × (strong_request_of words ≡ Some query) × PutsNone query input put
-
--- two are the same, or by both `strong` puts that the network of the input has no strong schedule
-abbrev pub AreOneButRefutations : (words : List (List ℕ)) (input a b : List ℕ) → Type 0
-AreOneButRefutations words input a b = (a ≡ b) ⊎ (StrongPutsNone words input a × StrongPutsNone words input b)
-
--- some bytes are a prefix of all that is defined for the words and an input; or by that request `strong` puts that the network of the input has no strong
--- schedule, and they are a prefix of a defined run that puts so too
-abbrev pub IsPrefixOfOneButRefutations : (words : List (List ℕ)) (input put all : List ℕ) → Status → Type 0
-IsPrefixOfOneButRefutations words input put all status =
-    IsPrefix put all ⊎ (StrongPutsNone words input all × ((whole : List ℕ) × DefinedRun words input whole status × StrongPutsNone words input whole
-    × IsPrefix put whole))

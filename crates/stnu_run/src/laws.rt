@@ -1,10 +1,8 @@
 //! Laws about the program, each the contract of a function without parameters.
 
-ghost use Rattle.std.specs.Prelude.{◌≡◌, ℕ, List, ◌∷◌, ◌++◌, codes, false};
-ghost use Rattle.std.specs.Str.{bytes_eq};
-ghost use Rattle.stnu_run.specs.DefinedRuns.{AreOfOneAnswer, AreOneButRefutations, DefinedRun};
-ghost use Rattle.stnu_run.specs.DefinedRuns.{IsPrefixOfOneButRefutations, program_named};
-ghost use Rattle.stnu_run.specs.DefinedRuns.{program_of, strong_word};
+ghost use Rattle.std.specs.Prelude.{◌≡◌, ℕ, List, ◌∷◌, ◌++◌, codes};
+ghost use Rattle.stnu_run.specs.DefinedRuns.{DefinedRun, program_named, program_of};
+ghost use Rattle.command_engine.specs.Single.{IsPrefix};
 ghost use Rattle.command_contracts.specs.ExactBytes.{IsPrefixOfDefined};
 ghost use Rattle.command_contracts.specs.Programs.{DefineSame, DefineSameWhereTaken, DefinesOne};
 ghost use Rattle.command_contracts.specs.Programs.{HasOneReply, RunsEndByCause, PrintsOne};
@@ -21,25 +19,21 @@ use play_command::{law_forge_is_lawful, law_play_is_lawful};
 use run_command::{law_feeders_decide_nothing, law_run_is_lawful};
 use session_command::law_session_is_lawful;
 use show_command::law_show_is_lawful;
-use strong_command::{law_strong_defines_one_but_refutations, law_strong_is_lawful};
+use strong_command::law_strong_is_lawful;
 
-/// For given words and a given input just one status stands in the defined runs, and one pair of
-/// bytes and status, except if the words are those of `strong` and the network of the input has no
-/// strong schedule: of such a one it may put any refutation. What is a prefix of what is put is a
-/// prefix of all that is defined, except then: there it is a prefix of a defined run that says so
-/// too. To each line, and if none comes, each command but `strong` has at most one reply.
+/// For given words and a given input at most one pair of bytes and status stands in the defined
+/// runs. What is a prefix of what is put is a prefix of all that is defined. To each line, and if
+/// none comes, each command has at most one reply.
 pub fn law_defined_run_is_one()
     ensures one { (words : List (List ℕ)) (input a b : List ℕ) (x y : Status)
         → DefinedRun words input a x → DefinedRun words input b y
-        → (x ≡ y) × AreOneButRefutations words input a b }
+        → (a ≡ b) × (x ≡ y) }
     ensures prefixes { (words : List (List ℕ)) (input put all : List ℕ) (status : Status)
         → IsPrefixOfDefined (program_of words) input put → DefinedRun words input all status
-        → IsPrefixOfOneButRefutations words input put all status }
-    ensures single { (words : List (List ℕ)) → AreOfOneAnswer words
-        → HasOneReply (program_of words) }
+        → IsPrefix put all }
+    ensures single { (words : List (List ℕ)) → HasOneReply (program_of words) }
 {
     law_each_defines_one();
-    law_strong_defines_one_but_refutations();
 }
 
 /// Whatever the words are, without an input their program defines at most one answer, and each run
@@ -79,10 +73,10 @@ pub fn law_feeders_change_nothing()
     law_feeders_decide_nothing();
 }
 
-/// Whatever the command is, but `strong`, for an input it defines at most one pair of bytes and
-/// status: one line for each command of the program.
+/// Whatever the command is, for an input it defines at most one pair of bytes and status: one line
+/// for each command of the program.
 fn law_each_defines_one()
-    ensures { (command : List ℕ) (words : List (List ℕ)) → bytes_eq command strong_word ≡ false
+    ensures { (command : List ℕ) (words : List (List ℕ))
         → DefinesOne (program_named command words) }
 {
     law_judge_is_lawful();
@@ -91,6 +85,7 @@ fn law_each_defines_one()
     law_session_is_lawful();
     law_show_is_lawful();
     law_play_is_lawful();
+    law_strong_is_lawful();
     law_deadline_is_lawful();
     law_fleet_is_lawful();
     law_forge_is_lawful();

@@ -1,2 +1,1 @@
 pub mod StrongAnswers
-pub mod OneAnswer

@@ -6,7 +6,5 @@ mod laws;
 mod strong_question;
 mod times;
 
-pub use laws::{
-    law_strong_defines_one_but_refutations, law_strong_is_lawful, law_strong_is_read_exactly,
-};
+pub use laws::{law_strong_is_lawful, law_strong_is_read_exactly};
 pub use strong_question::StrongQuestion;

@@ -10,20 +10,22 @@ ghost use Rattle.strong_command.specs.StrongAnswers.{times_text};
 
 use crate::times::{executable_names, push_times};
 use cert_format::{StrongCert, print_strong};
-use command_contracts::{PlanQuestion, Request};
+use command_contracts::{OneAnswer, PlanQuestion, Request};
 use command_engine::{Answer, End, Question, Word};
 use command_words::{Arguments, Syntax};
 use input_texts::{Delay, PlanForm, PlanNetwork};
 use net_model::Network;
 use std::alloc::{AllocError, Global};
 use std::thread::Threads;
-use strong_plan::laws::{law_plan_numbers_are_shown, law_strong_is_controllable};
+use strong_plan::laws::{
+    law_plan_numbers_are_shown, law_strong_answer_is_one, law_strong_is_controllable,
+};
 use strong_plan::{Strong, strong};
 
 /// What strong schedule a network has, as it is stated: the command `strong` reads a plan, and puts
-/// its least strong schedule, or that it has none and a certificate of that. It ends with 0 if it
-/// has one, and with 1 if it has none. The delay of the network decides nothing. Which certificate
-/// is put, if there are several, no clause says. What it promises is `StrongPromise`.
+/// its least strong schedule, or that it has none and a certificate of that, which is the one that
+/// `IsStrongRefutation` tells. It ends with 0 if it has one, and with 1 if it has none. The delay of
+/// the network decides nothing. What it promises is `StrongPromise`.
 #[derive(Clone, Copy)]
 pub struct StrongQuestion {
     form: PlanForm,
@@ -83,6 +85,12 @@ impl PlanQuestion for StrongQuestion {
     fn answers_keep_it() {}
 
     fn ends_by_an_answer() {}
+}
+
+impl OneAnswer for StrongQuestion {
+    fn answers_once() {
+        law_strong_answer_is_one();
+    }
 }
 
 /// Puts the least strong schedule of a network into the buffer, which is empty, or that it has

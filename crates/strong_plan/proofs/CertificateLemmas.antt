@@ -13,6 +13,7 @@ use Rattle.cert_format.specs.declared.strong_cert.StrongCert.{StrongCert}
 use Rattle.cert_format.specs.declared.strong_cert.StrongLine.{StrongLine}
 use Rattle.earliest_times.specs.Rounds.{edge_at_place, no_edge}
 use Rattle.earliest_times.specs.Least.{IsLoop, IsLoopFromLowest}
+use Rattle.earliest_times.specs.FirstLoops.{IsFirstLoop}
 use Rattle.earliest_times.proofs.TurnLemmas.{loop_some}
 use Rattle.strong_plan.specs.Numbers.{HasShownNumbers}
 use Rattle.strong_plan.specs.Judgement.{AllPass, cert_passes, strong_judged, judgement_of}
@@ -52,16 +53,17 @@ not_empty : (names : List (List ℕ)) → 0 < length names → names ≢ []
 not_empty [] some = absurd (omega (arith, some))
 not_empty (name ∷ names) some = λ none. absurd cc
 
-pub ring_refutes : (net : Plan) → IsPlan net → (places : List ℕ) → IsLoopFromLowest (map down_edge net.links) places → IsStrongRefutation net (record { by = []; ring = names_at net (map down_edge net.links) places })
-ring_refutes net plan places from_lowest = record {
+pub ring_refutes : (net : Plan) → IsPlan net → (places : List ℕ) → IsFirstLoop (length net.points) (map down_edge net.links) places → IsStrongRefutation net (record { by = []; ring = names_at net (map down_edge net.links) places })
+ring_refutes net plan places first = record {
   accepted = accepted;
   excludes = λ strongly. law_accepted_excludes net cert plan accepted strongly;
   rings_first = λ links ring. not_empty cert.ring (omega (arith, names, count, some));
   points = points_at edges places;
   named = refl;
-  from_lowest = loop_points edges places from_lowest;
+  from_lowest = loop_points edges places first.from_lowest;
   of_one_kind = inl refl;
   weights = All-from_recursion HasStrongWeight [] tt;
+  first = inl (record { places = places; first = first; lines = refl; points = refl });
 }
   where
     edges : List Edge
@@ -71,7 +73,7 @@ ring_refutes net plan places from_lowest = record {
     cert = record { by = []; ring = names_at net edges places }
 
     loop : IsLoop edges places
-    loop = from_lowest.loop
+    loop = first.from_lowest.loop
 
     some : 0 < length places
     some = loop_some edges places loop
@@ -90,24 +92,25 @@ ring_refutes net plan places from_lowest = record {
     accepted : judgement_of net cert ≡ Accepted
     accepted = accept net cert (cert_passes net [] (names_at net edges places)) refl passes
 
-pub bounds_refute : (net : Plan) → IsPlan net → HasShownNumbers net → HasNoRing net → (edges : List Edge) → AreReduced net edges → (places : List ℕ) → IsLoopFromLowest edges places
+pub bounds_refute : (net : Plan) → IsPlan net → HasShownNumbers net → HasNoRing net → (edges : List Edge) → AreReduced net edges → (places : List ℕ) → IsFirstLoop (length net.points) edges places
     → IsStrongRefutation net (record { by = lines_at net edges places; ring = [] })
-bounds_refute net plan numbers no_ring edges are places from_lowest = record {
+bounds_refute net plan numbers no_ring edges are places first = record {
   accepted = accepted;
   excludes = λ strongly. law_accepted_excludes net cert plan accepted strongly;
   rings_first = λ links ring. absurd (no_ring links ring);
   points = points_at edges places;
   named = append-nil (map (λ (line : StrongLine). line.from) (lines_at net edges places)) ∙ from_names places;
-  from_lowest = loop_points edges places from_lowest;
+  from_lowest = loop_points edges places first.from_lowest;
   of_one_kind = inr refl;
   weights = All-from_recursion HasStrongWeight (lines_at net edges places) (small places (recursion_from_All (λ place. place < length edges) places loop.within));
+  first = inr (record { no_ring = no_ring; edges = edges; reduced = are; places = places; first = first; lines = refl; points = refl });
 }
   where
     cert : StrongCert
     cert = record { by = lines_at net edges places; ring = [] }
 
     loop : IsLoop edges places
-    loop = from_lowest.loop
+    loop = first.from_lowest.loop
 
     from_names : (ks : List ℕ) → map (λ (line : StrongLine). line.from) (lines_at net edges ks) ≡ names_at net edges ks
     from_names [] = refl

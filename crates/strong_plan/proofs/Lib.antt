@@ -14,4 +14,5 @@ pub mod NameLemmas
 pub mod RingLemmas
 pub mod BoundLinesLemmas
 pub mod CertificateLemmas
+pub mod OneAnswerLemmas
 pub mod DelayLemmas

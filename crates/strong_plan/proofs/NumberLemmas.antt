@@ -1,17 +1,16 @@
 -- The numbers of a plan, and those of its shown form, are numbers that the shown form of a plan may have.
-use Rattle.std.proofs.Common.{◌≡◌, ℕ, ℤ, pos, ◌+◌, ◌≤◌, ◌+ℤ◌, ◌-ℤ◌, ◌≤ℤ◌, Bool, true, List, arith, subst, get_or, length}
-use Rattle.std.specs.List.{All}
+use Rattle.std.proofs.Common.{◌≡◌, ℕ, ℤ, pos, ◌≤◌, ◌+ℤ◌, ◌-ℤ◌, true, arith, get_or}
 use Rattle.std.specs.Prelude.{unsigned_abs, is_some}
 use Rattle.std.proofs.lemmas.Bool.{leb-true}
 use Rattle.std.proofs.lemmas.Int.{ints}
 use Rattle.std.proofs.lemmas.List.Elements.{All-map}
-use Rattle.net_model.specs.Limits.{most_delay, most_number, within_limit}
-use Rattle.net_model.specs.Network.{Plan, IsPlan, HasPlanNumbers, activation}
-use Rattle.net_model.specs.ShownForm.{lag, gain, shown_bound, shown_link, shown_form}
+use Rattle.net_model.specs.Limits.{within_limit}
+use Rattle.net_model.specs.Network.{activation}
+use Rattle.net_model.specs.ShownForm.{lag, gain, shown_bound, shown_link}
 use Rattle.net_model.specs.declared.part.Bound.{Bound}
 use Rattle.net_model.specs.declared.part.Link.{Link}
 use Rattle.net_model.proofs.ShownLemmas.{at_most_delay, at_most_gain}
-use Rattle.strong_plan.specs.Numbers.{HasShownNumbers, PlanNumbersAreShown, ShownFormsHaveShownNumbers, most_shown}
+use Rattle.strong_plan.specs.Numbers.{PlanNumbersAreShown, ShownFormsHaveShownNumbers, most_shown}
 
 small : (n : ℤ) → within_limit n ≡ true → unsigned_abs n ≤ 1000000000
 small n fits = leb-true (unsigned_abs n) 1000000000 fits

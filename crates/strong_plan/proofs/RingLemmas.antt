@@ -27,7 +27,7 @@ use Rattle.strong_plan.proofs.NameLemmas.{named_point, has_name}
 abbrev pub IsLinked : Plan → PointId → PointId → Type 0
 IsLinked net from to = (name : LinkId) × (link : Link) × IsLinkOf net name link × (link.from ≡ from) × (link.to ≡ to)
 
-abbrev AreLinked : Plan → List Edge → Type 0
+abbrev pub AreLinked : Plan → List Edge → Type 0
 AreLinked net edges = AllByRecursion (λ (edge : Edge). IsLinked net edge.from edge.to) edges
 
 -- the edge of a link at a place

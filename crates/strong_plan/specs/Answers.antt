@@ -1,5 +1,5 @@
 -- What is answered of a network: its least strong schedule, or a certificate that it has none.
-use Rattle.std.specs.Prelude.{◌≡◌, ◌≢◌, ◌≤◌, ◌<◌, ◌++◌, ℕ, negsuc, List, [], Some, None, map, length, slice_get}
+use Rattle.std.specs.Prelude.{◌≡◌, ◌≢◌, ◌⊎◌, ◌≤◌, ◌<◌, ◌++◌, ℕ, negsuc, List, [], Some, None, map, length, slice_get}
 use Rattle.std.specs.List.{AllPairs, slice_index_or}
 use Rattle.std.specs.Option.{option_map_or}
 use Rattle.net_model.specs.Network.{Plan}
@@ -12,6 +12,7 @@ use Rattle.cert_format.specs.StrongWords.{OfOneKind, HasStrongWeights}
 use Rattle.cert_format.specs.declared.strong_cert.StrongCert.{StrongCert}
 use Rattle.cert_format.specs.declared.strong_cert.StrongLine.{StrongLine}
 use Rattle.earliest_times.specs.Rounds.{edge_at_place}
+use Rattle.earliest_times.specs.FirstLoops.{IsFirstLoop}
 use Rattle.strong_plan.specs.Strong.{IsLeastStrongSchedule, IsStronglyControllable}
 use Rattle.strong_plan.specs.Chains.{IsRing}
 use Rattle.strong_plan.specs.ReducedEdges.{reduced_edge}
@@ -63,7 +64,25 @@ pub record IsFromLowest (points : List PointId) : Type 0 where
   pub once : AllPairs (λ one other. one.0 ≢ other.0) points
   pub lowest : (k : ℕ) → k < length points → (slice_index_or points 0 (record { 0 = 0 })).0 ≤ (slice_index_or points k (record { 0 = 0 })).0
 
--- A refutation: a certificate that is accepted, of a ring if the links have one; no point comes twice in it, and it begins at its lowest.
+-- the ring that a certificate states is the first loop of the links
+pub record StatesFirstRing (net : Plan) (cert : StrongCert) : Type 0 where
+  pub places : List ℕ
+  pub first : IsFirstLoop (length net.points) (map down_edge net.links) places
+  pub lines : cert.by ≡ []
+  pub points : cert.ring ≡ names_at net (map down_edge net.links) places
+
+-- links have no ring, and what a certificate states is the first negative loop of the reduced edges, in order of the bounds
+pub record StatesFirstLoop (net : Plan) (cert : StrongCert) : Type 0 where
+  pub no_ring : HasNoRing net
+  pub edges : List Edge
+  pub reduced : AreReduced net edges
+  pub places : List ℕ
+  pub first : IsFirstLoop (length net.points) edges places
+  pub lines : cert.by ≡ lines_at net edges places
+  pub points : cert.ring ≡ []
+
+-- A refutation: a certificate that is accepted, of a ring if the links have one; no point comes twice in it, and it begins at its lowest. It is of the first
+-- such ring or loop.
 pub record IsStrongRefutation (net : Plan) (cert : StrongCert) : Type 0 where
   pub accepted : judgement_of net cert ≡ Accepted
   pub excludes : IsStronglyControllable net → ⊥
@@ -73,6 +92,7 @@ pub record IsStrongRefutation (net : Plan) (cert : StrongCert) : Type 0 where
   pub from_lowest : IsFromLowest points
   pub of_one_kind : OfOneKind cert
   pub weights : HasStrongWeights cert
+  pub first : StatesFirstRing net cert ⊎ StatesFirstLoop net cert
 
 -- what is answered of a network
 abbrev pub IsStrongAnswer : Plan → Strong → Type 0

@@ -10,9 +10,11 @@ use Rattle.strategy_model.specs.Control.{IsControllable}
 use Rattle.strategy_model.specs.Situations.{moment_in}
 use Rattle.strategy_model.specs.Edges.{HoldsIn, IsNegativeLoop}
 use Rattle.strong_plan.specs.Strong.{executed_in, IsStrongSchedule, IsLeastStrongSchedule, IsStronglyControllable}
+use Rattle.strong_plan.specs.Answers.{IsStrongAnswer}
 use Rattle.strong_plan.specs.Judgement.{judgement_of}
 use Rattle.cert_format.specs.declared.strong_cert.StrongCert.{StrongCert}
 use Rattle.strong_plan.specs.declared.judgement.StrongJudgement.TheVariants.{Accepted}
+use Rattle.strong_plan.specs.declared.answer.Strong.{Strong}
 use Rattle.strong_plan.specs.Chains.{IsChain, IsReduced, IsAllowed, IsRing}
 
 -- every point of the network has a root
@@ -58,3 +60,7 @@ LeastKeptIsLeast =
 -- an accepted certificate excludes every strong schedule, whoever wrote it
 abbrev pub AcceptedExcludes : Type 0
 AcceptedExcludes = (net : Plan) (cert : StrongCert) → IsPlan net → judgement_of net cert ≡ Accepted → IsStronglyControllable net → ⊥
+
+-- two answers to one network are the same: its least strong schedule, or the refutation of its first ring or loop
+abbrev pub StrongAnswerIsOne : Type 0
+StrongAnswerIsOne = (net : Plan) (one other : Strong) → IsStrongAnswer net one → IsStrongAnswer net other → one ≡ other

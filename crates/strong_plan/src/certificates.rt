@@ -4,7 +4,7 @@ ghost use Rattle.std.specs.Prelude.{◌≡◌, ◌<◌, length, map, IfOk};
 ghost use Rattle.std.specs.List.{All};
 ghost use Rattle.net_model.specs.Network.{IsPoint};
 ghost use Rattle.earliest_times.specs.History.{AreWithin};
-ghost use Rattle.earliest_times.specs.Least.{IsLoopFromLowest};
+ghost use Rattle.earliest_times.specs.FirstLoops.{IsFirstLoop};
 ghost use Rattle.strong_plan.specs.Numbers.{HasShownNumbers};
 ghost use Rattle.strong_plan.specs.Answers.{down_edge, reduced_line, lines_at, names_at};
 ghost use Rattle.strong_plan.specs.Answers.{AreReduced, HasNoRing, IsStrongRefutation};
@@ -13,7 +13,7 @@ use cert_format::{StrongCert, StrongLine};
 use net_model::{Edge, Items, Name, Network};
 use std::alloc::{AllocError, Global};
 
-/// The certificate of a ring of links, by a loop of their edges.
+/// The certificate of a ring of links, by the first loop of their edges.
 pub(crate) fn ring_certificate(
     alloc: Global,
     net: &Network,
@@ -21,7 +21,7 @@ pub(crate) fn ring_certificate(
     places: &[usize],
 ) -> Result<StrongCert, AllocError>
     requires edges { edges.now ≡ map down_edge net.now.links }
-    requires round { IsLoopFromLowest edges.now places.now }
+    requires round { IsFirstLoop (length net.now.points) edges.now places.now }
     ensures { IfOk result (IsStrongRefutation net.now) }
 {
     net.sound();
@@ -32,7 +32,7 @@ pub(crate) fn ring_certificate(
     })
 }
 
-/// The certificate of a loop of the reduced edges of bounds, if the links have no ring.
+/// The certificate of the first loop of the reduced edges of bounds, if the links have no ring.
 pub(crate) fn bound_certificate(
     alloc: Global,
     net: &Network,
@@ -40,7 +40,7 @@ pub(crate) fn bound_certificate(
     places: &[usize],
 ) -> Result<StrongCert, AllocError>
     requires edges { AreReduced net.now edges.now }
-    requires round { IsLoopFromLowest edges.now places.now }
+    requires round { IsFirstLoop (length net.now.points) edges.now places.now }
     requires no_ring { HasNoRing net.now }
     requires numbers { HasShownNumbers net.now }
     ensures { IfOk result (IsStrongRefutation net.now) }

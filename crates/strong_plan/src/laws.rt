@@ -3,6 +3,7 @@
 ghost use Rattle.strong_plan.specs.Laws.{ReducedEdgesSuffice, ReducedEdgesHold};
 ghost use Rattle.strong_plan.specs.Laws.{StrongIsControllable, LoopsExcludeStrong};
 ghost use Rattle.strong_plan.specs.Laws.{RingsExcludeStrong, LeastKeptIsLeast, AcceptedExcludes};
+ghost use Rattle.strong_plan.specs.Laws.{StrongAnswerIsOne};
 ghost use Rattle.strong_plan.specs.Numbers.{PlanNumbersAreShown, ShownFormsHaveShownNumbers};
 
 use strategy_model::laws::dispatch;
@@ -46,6 +47,11 @@ pub fn law_least_kept_is_least()
 /// An accepted strong certificate excludes every strong schedule, whoever wrote it.
 pub fn law_accepted_excludes()
     ensures { AcceptedExcludes }
+{}
+
+/// Two answers to one network are the same.
+pub fn law_strong_answer_is_one()
+    ensures { StrongAnswerIsOne }
 {}
 
 /// The numbers of a plan are numbers that the shown form of a plan may have.

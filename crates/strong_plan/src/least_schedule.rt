@@ -7,23 +7,29 @@ ghost use Rattle.strong_plan.specs.Strong.{executed_in};
 ghost use Rattle.strong_plan.specs.Laws.{HasRoots};
 ghost use Rattle.strong_plan.specs.Numbers.{HasShownNumbers};
 ghost use Rattle.strong_plan.specs.Answers.{down_edge, AreReduced, HasNoRing, IsStrongAnswer};
+ghost use Rattle.strong_plan.specs.declared.answer.Strong.{Strong};
 
 use crate::answer::Strong;
 use crate::certificates::{bound_certificate, ring_certificate};
 use crate::chain::reduced_edge;
+use crate::laws::law_strong_answer_is_one;
 use earliest_times::{MomentsOrLoop, least_moments};
 use net_model::{Edge, Items, Link, Network, PointId};
 use std::alloc::{AllocError, Global};
 
 /// The least strong schedule of a network as it is stated, whatever its delay, exactly if it has
 /// one; else a certificate that `judge_strong` accepts: a ring if the links have one, else a loop.
-/// No point comes twice in it, and it begins at its lowest point; which of several such it is no
-/// clause says. The numbers of the network are at most 1,001,000,000 in size, as those of every
-/// plan and of its shown form are. `AllocError` comes only for want of memory.
+/// No point comes twice in it, and it begins at its lowest point. Of several such it is the first
+/// (`IsFirstLoop` of earliest_times): so a network has one answer. The numbers of the network are
+/// at most 1,001,000,000 in size, as those of every plan and of its shown form are. `AllocError`
+/// comes only for want of memory.
 pub fn strong(alloc: Global, net: &Network) -> Result<Strong, AllocError>
     requires { HasShownNumbers net.now }
-    ensures { IfOk result (IsStrongAnswer net.now) }
+    ensures answers { IfOk result (IsStrongAnswer net.now) }
+    ensures one { IfOk result (λ answer. (other : Strong) → IsStrongAnswer net.now other
+        → answer ≡ other) }
 {
+    law_strong_answer_is_one();
     let points = net.points().len();
     let edges = down_edges(alloc, net.links())?;
     match least_moments(alloc, points, edges.as_slice())? {

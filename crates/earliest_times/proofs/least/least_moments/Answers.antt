@@ -1,4 +1,4 @@
-use Rattle.std.proofs.Common.{◌≡◌, ◌≤◌, ◌+◌, ◌-◌, ◌<◌, ◌++◌, ◌∷◌, [], ℕ, List, Option, Some, None, true, false, length, get_or, replicate, is_some, is_none, not, sym, ap, subst, ◌∙◌, arith, rules}
+use Rattle.std.proofs.Common.{◌≡◌, ◌≤◌, ◌+◌, ◌-◌, ◌<◌, ◌++◌, ◌∷◌, [], ℕ, List, Option, Some, None, length, get_or, replicate, is_some, not, sym, ap, subst, ◌∙◌, arith, rules}
 use Rattle.std.specs.List.{All, position}
 use Rattle.std.specs.Option.{IsSome}
 use Rattle.std.specs.Prelude.{unsigned_abs}
@@ -8,6 +8,7 @@ use Rattle.net_model.specs.declared.part.Edge.{Edge}
 use Rattle.earliest_times.specs.Rounds.{IsRoundOver}
 use Rattle.earliest_times.specs.History.{IsHistory, AreWithin}
 use Rattle.earliest_times.specs.Least.{AreLeast, IsLoop, IsLoopFromLowest}
+use Rattle.earliest_times.specs.FirstLoops.{IsLoopOfFirstWalk, IsTurnedToLowest}
 use Rattle.earliest_times.proofs.LeastLemmas.{IsUnderWay, levels_begin, levels_go_on, moments_length, moments_small, moments_are_least, raised_start, none_is}
 use Rattle.earliest_times.proofs.least.least_moments.Goals as goal
 
@@ -115,8 +116,23 @@ trace-requires-clause-raised c =
     subst (λ (ls : List (List (Option ℕ))). IsSome (get_or (get_or ls (length c.as_slice-levels.result.now - 1) []) c.unwrap-start.result None)) (sym c.as_slice-levels.ensures.value)
     (subst (λ (k : ℕ). IsSome (get_or (get_or c.loop.levels.items k []) c.unwrap-start.result None)) (sym last) its)
 
+pub trace-requires-clause-first : goal.trace-requires-clause-first
+trace-requires-clause-first c =
+    let counted = c.loop.invariant.counted in
+    let row = row_is c.loop.levels.items c.as_slice-levels.result.now c.args.points c.index-levels-points.result c.as_slice-2.result.now (omega (arith, counted)) c.as_slice-levels.ensures.value c.index-levels-points.is c.as_slice-2.ensures in
+    let same : get_or c.as_slice-levels.result.now c.args.points [] ≡ get_or c.loop.levels.items c.args.points [] = ap (λ (ls : List (List (Option ℕ))). get_or ls c.args.points []) c.as_slice-levels.ensures.value in
+    ap (position (λ (by : Option ℕ). is_some by)) (same ∙ sym row) ∙ sym c.first_raised-2.ensures ∙ c.unwrap-start.ensures
+
 pub returns : goal.returns
-returns c = subst (IsLoopFromLowest c.args.edges.now) (sym c.new-2.ensures) c.in_ok-turned.ensures
+returns c =
+    let turned = subst (IsTurnedToLowest c.args.edges.now c.as_slice-3.result.now) (sym c.new-2.ensures) c.in_ok-turned.ensures.turned in
+    let first = subst (IsLoopOfFirstWalk c.args.points c.args.edges.now) (sym c.as_slice-3.ensures.value) c.in_ok-walk.ensures.is_first in
+    record {
+      from_lowest = subst (IsLoopFromLowest c.args.edges.now) (sym c.new-2.ensures) c.in_ok-turned.ensures.from_lowest;
+      loop = c.as_slice-3.result.now;
+      first = first;
+      turned = turned;
+    }
 
 pub from_lowest-requires : goal.from_lowest-requires
-from_lowest-requires c = subst (IsLoop c.args.edges.now) (sym c.as_slice-3.ensures.value) c.in_ok-walk.ensures
+from_lowest-requires c = subst (IsLoop c.args.edges.now) (sym c.as_slice-3.ensures.value) c.in_ok-walk.ensures.is_loop

@@ -4,12 +4,20 @@ use Rattle.earliest_times.specs.Least.{IsLoopFromLowest}
 use Rattle.earliest_times.proofs.TurnLemmas.{from_lowest}
 use Rattle.earliest_times.proofs.turn.from_lowest.Goals as goal
 
-pub returns : goal.returns
-returns c =
-    let edges = c.args.edges.now in
+-- the two parts of a walk, one after the other
+parts_are : (walk turned all : List ℕ) (first : ℕ) → turned ≡ take (length walk - first) (drop first walk) → all ≡ turned ++ take first walk → all ≡ drop first walk ++ take first walk
+parts_are walk turned all first back prefix =
+    prefix ∙ ap (λ (xs : List ℕ). xs ++ take first walk) (back ∙ take_all (length walk - first) (drop first walk) (let size = length-drop first walk in omega (arith, size)))
+
+pub returns-clause-from_lowest : goal.returns-clause-from_lowest
+returns-clause-from_lowest c =
     let walk = c.args.walk.now in
     let first = c.lowest-first.result in
-    let back : c.in_ok-turned.turned.items ≡ drop first walk = c.in_ok-turned.ensures.items ∙ take_all (length walk - first) (drop first walk) (let size = length-drop first walk in omega (arith, size)) in
-    let prefix : c.extend_from_slice.new.self.items ≡ c.in_ok-turned.turned.items ++ take first walk = c.in_ok-extend_from_slice.ensures.items in
-    let same : c.extend_from_slice.new.self.items ≡ drop first walk ++ take first walk = prefix ∙ ap (λ (xs : List ℕ). xs ++ take first walk) back in
-    subst (IsLoopFromLowest edges) (sym same) (from_lowest edges walk first c.requires c.lowest-first.ensures)
+    let same = parts_are walk c.in_ok-turned.turned.items c.extend_from_slice.new.self.items first c.in_ok-turned.ensures.items c.in_ok-extend_from_slice.ensures.items in
+    subst (IsLoopFromLowest c.args.edges.now) (sym same) (from_lowest c.args.edges.now walk first c.requires c.lowest-first.ensures)
+
+pub returns-clause-turned : goal.returns-clause-turned
+returns-clause-turned c =
+    let walk = c.args.walk.now in
+    let first = c.lowest-first.result in
+    record { at = first; lowest = c.lowest-first.ensures; is = parts_are walk c.in_ok-turned.turned.items c.extend_from_slice.new.self.items first c.in_ok-turned.ensures.items c.in_ok-extend_from_slice.ensures.items }

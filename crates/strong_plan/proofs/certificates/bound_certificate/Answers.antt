@@ -1,8 +1,8 @@
-use Rattle.std.proofs.Common.{◌≡◌, ℕ, List, [], sym, subst, ◌∙◌}
+use Rattle.std.proofs.Common.{◌≡◌, ℕ, List, [], length, sym, subst, ◌∙◌}
 use Rattle.net_model.specs.Network.{Plan, IsPlan}
 use Rattle.net_model.specs.declared.part.Edge.{Edge}
 use Rattle.cert_format.specs.declared.strong_cert.StrongLine.{StrongLine}
-use Rattle.earliest_times.specs.Least.{IsLoopFromLowest}
+use Rattle.earliest_times.specs.FirstLoops.{IsFirstLoop}
 use Rattle.strong_plan.specs.Numbers.{HasShownNumbers}
 use Rattle.strong_plan.specs.Answers.{IsStrongRefutation, AreReduced, HasNoRing, lines_at}
 use Rattle.strong_plan.proofs.EdgesLemmas.{edges_within, count}
@@ -16,7 +16,7 @@ pub lines-requires-clause-bounds : goal.lines-requires-clause-bounds
 lines-requires-clause-bounds c = count c.args.net.now c.sound.ensures c.args.edges.now c.requires.edges
 
 -- the certificate of these lists
-made : (net : Plan) → IsPlan net → HasShownNumbers net → HasNoRing net → (edges : List Edge) (places : List ℕ) (by : List StrongLine) (ring : List (List ℕ)) → AreReduced net edges → IsLoopFromLowest edges places
+made : (net : Plan) → IsPlan net → HasShownNumbers net → HasNoRing net → (edges : List Edge) (places : List ℕ) (by : List StrongLine) (ring : List (List ℕ)) → AreReduced net edges → IsFirstLoop (length net.points) edges places
     → by ≡ lines_at net edges places → ring ≡ [] → IsStrongRefutation net (record { by = by; ring = ring })
 made net plan numbers no_ring edges places by ring are loop lines none =
     let first = bounds_refute net plan numbers no_ring edges are places loop in

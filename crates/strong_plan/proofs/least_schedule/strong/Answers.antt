@@ -6,6 +6,7 @@ use Rattle.strategy_model.specs.Edges.{HoldsIn}
 use Rattle.earliest_times.specs.History.{AreWithin}
 use Rattle.earliest_times.specs.Least.{AreLeast}
 use Rattle.strong_plan.specs.Answers.{down_edge}
+use Rattle.strong_plan.specs.declared.answer.Strong.TheVariants.{Refuted}
 use Rattle.strong_plan.proofs.HeightLemmas.{down_within, down_small, rooted, no_ring}
 use Rattle.strong_plan.proofs.least_schedule.strong.Goals as goal
 
@@ -37,3 +38,6 @@ by_bounds-requires-clause-no_ring c =
     let heights = c.in-Moments.field-0 in
     let its : AreLeast (length c.points-points.result.now) c.as_slice.result.now heights = search rules in
     no_ring net heights (subst (All (HoldsIn heights)) edges its.keep)
+
+pub returns-clause-one : goal.returns-clause-one
+returns-clause-one c = λ other answers. c.law_strong_answer_is_one.ensures c.args.net.now (Refuted c.in_ok-cert-in-Loop.cert) other c.in_ok-cert-in-Loop.ensures answers
