@@ -1,12 +1,16 @@
 -- Tables that are lowered to the edges of one another.
 use Rattle.std.proofs.Common.{◌≡◌, ℕ, ◌+◌, ◌<◌, ◌≤◌, ℤ, ◌==◌, ◌⊎◌, List, [], ◌∷◌, length, take, get_or, Bool, true, false, Option, Some, None, IfSome, refl, ap, sym, subst, ◌∙◌, inl, inr, arith}
 use Rattle.std.specs.Prelude.{MatchOption, slice_get}
-use Rattle.std.specs.List.{All, Contains, fold}
+use Rattle.std.specs.List.{All, Contains, enumerate_from, fold}
+use Rattle.std.specs.Prelude.{filter}
+use Rattle.std.proofs.Common.{◌-◌}
 use Rattle.std.proofs.lemmas.Bool.Decides.{nat_tests}
-use Rattle.std.proofs.lemmas.List.{take_more}
-use Rattle.std.proofs.lemmas.List.Elements.{All-contains}
+use Rattle.std.proofs.lemmas.List.{take_more, get_or_default}
+use Rattle.std.proofs.lemmas.Bool.{eqb-true}
+use Rattle.std.proofs.lemmas.List.Elements.{All-contains, Contains-get_or}
 use Rattle.std.proofs.lemmas.List.Sums.{fold-append}
-use Rattle.net_model.specs.Network.{Plan, IsPlan}
+use Rattle.net_model.specs.Network.{Plan, IsPlan, links_from}
+use Rattle.net_model.specs.Edges.{IsLabelled}
 use Rattle.net_model.specs.Rules.{Follows}
 use Rattle.net_model.specs.declared.ids.LinkId.{LinkId}
 use Rattle.net_model.specs.declared.ids.PointId.{PointId}
@@ -14,16 +18,16 @@ use Rattle.net_model.specs.declared.part.Edge.{Edge}
 use Rattle.net_model.specs.declared.part.Link.{Link}
 use Rattle.closure_model.specs.Closure.{IsClosure, HoldsDerivable}
 use Rattle.closure_model.specs.Derivable.{IsDerivable, IsDerivableFor, IsLeastDerivable}
-use Rattle.closure_model.specs.Keys.{Key, Shape, IsKey, shape_of, key_of}
-use Rattle.closure_model.specs.Tables.{Graph, weight_of, HasEdge, HasAtMost, IsAtMost, base_edges, edges_of, row_of, no_edges, lowered, has_at_most}
-use Rattle.closure_model.proofs.BaseLemmas.{all_contained}
+use Rattle.closure_model.specs.Keys.{Shape, IsKey, shape_of, key_of}
+use Rattle.closure_model.specs.Tables.{Graph, weight_of, HasEdge, HasAtMost, IsAtMost, base_edges, edges_of, row_of, no_edges, lowered, has_at_most, IsFor}
+use Rattle.closure_model.proofs.BaseLemmas.{all_contained, numbered, numbered_contained}
 use Rattle.closure_model.proofs.LawProofs.{law_rules_keep_derivable, law_closed_and_derivable_is_closure}
-use Rattle.closure_model.proofs.Lists.{Contains-filter, Contains-filter_from}
+use Rattle.closure_model.proofs.Lists.{Contains-filter, Contains-filter_from, Contains-filter_passes, Contains-map, Contains-map_from}
 use Rattle.closure_model.proofs.TableLemmas.{listed_edge, edge_listed, no_edges-has_none, lowered-at_most, lowered-cases, lowered-shape, lowered-has, all_lowered-at_most, all_lowered-has, all_lowered-cases, all_lowered-shape, at_most_below}
 use Rattle.closure_model.proofs.TableLemmas.{at_most_from, at_most_test, at_most_tested, has_at_most_itself, IsAtMost-itself, IsAtMost-trans}
-use Rattle.network_closure.proofs.ConsequenceLemmas.{held_one, label_known, labelled_end}
+use Rattle.network_closure.proofs.ConsequenceLemmas.{held_one, activation_at}
 use Rattle.network_closure.proofs.PartialClosureLemmas.{closed_partial_closure_is_closure, derivable_is, derivable_key, derivable_size}
-use Rattle.network_closure.specs.Saturation.{IsPartialClosure, IsOfDerivable, IsDenseOf, IsLoweredTo, IsEdgeInto, IsEdgeBetween, IsStorable, TestsTo, lowered_if}
+use Rattle.network_closure.specs.Saturation.{IsPartialClosure, IsOfDerivable, IsDenseOf, IsLoweredTo, IsEdgeTo, IsEdgeFromTo, IsEdgeBetween, IsStorable, TestsTo, lowered_if}
 
 -- ---- a table that was lowered
 pub lowered_none : (net : Plan) (table : Graph) (among : Edge → Type 0) → IsOfDerivable net table → ((edge : Edge) → among edge → ⊥) → IsLoweredTo net among table table
@@ -130,67 +134,96 @@ target_more table to row edge is below = by (cases_below edge.to.0 to.0 below.1)
     by (inl less) = inl (below.0, less)
     by (inr same) = inr (subst (λ (edges : List Edge). Contains edges edge) (sym is) (in_row table to edge below.0 same))
 
--- the key of an edge from a place
-abbrev pub key_at : PointId → ℕ → Option LinkId → Key
-key_at to place label = record { to = to; from = record { 0 = place }; label = label }
+-- the edge that was found is the one of its source, target and label
+pub found_is : (dense : Graph) (from to : PointId) (label : Option LinkId) (found : Option Edge)
+    → MatchOption found (weight_of dense (record { to = to; from = from; label = label }) ≡ None) (IsEdgeBetween dense from to label) → (edge : Edge) → IsEdgeBetween dense from to label edge → found ≡ Some edge
+found_is dense from to label None none edge is =
+    let keys : key_of edge ≡ record { to = to; from = from; label = label } = λ i. record { to = is.to_is i; from = is.from_is i; label = is.label_is i } in
+    let both : None ≡ Some edge.weight = sym none ∙ (ap (weight_of dense) (sym keys) ∙ is.has) in
+    absurd cc
+found_is dense from to label (Some one) held edge is = ap Some (held_one dense from to label one edge held is.has is.from_is is.to_is is.label_is)
 
-pub found_more : (dense : Graph) (place : ℕ) (to : PointId) (label : Option LinkId) (found : Option Edge) → MatchOption found (weight_of dense (key_at to place label) ≡ None) (IsEdgeBetween dense (record { 0 = place }) to label)
-    → (edge : Edge) → IsEdgeInto dense to label edge × (edge.from.0 < place + 1) → (IsEdgeInto dense to label edge × (edge.from.0 < place)) ⊎ (found ≡ Some edge)
-found_more dense place to label found held edge into = by (cases_below edge.from.0 place into.1)
+-- an edge of a table into a point, from a point below a number
+abbrev pub IsEdgeToBelow : Graph → PointId → ℕ → Edge → Type 0
+IsEdgeToBelow table to end edge = IsEdgeTo table to edge × (edge.from.0 < end)
+
+pub source_more : (dense : Graph) (to : PointId) (place : ℕ) (edge : Edge) → IsEdgeToBelow dense to (place + 1) edge → IsEdgeToBelow dense to place edge ⊎ IsEdgeFromTo dense (record { 0 = place }) to edge
+source_more dense to place edge into = by (cases_below edge.from.0 place into.1)
   where
-    it_is : (o : Option Edge) → MatchOption o (weight_of dense (key_at to place label) ≡ None) (IsEdgeBetween dense (record { 0 = place }) to label) → edge.from ≡ record { 0 = place } → o ≡ Some edge
-    it_is None none begins =
-        let keys : key_of edge ≡ key_at to place label = λ i. record { to = into.0.to_is i; from = begins i; label = into.0.label_is i } in
-        let both : None ≡ Some edge.weight = sym none ∙ (ap (weight_of dense) (sym keys) ∙ into.0.has) in
-        absurd cc
-    it_is (Some one) is begins = ap Some (held_one dense (record { 0 = place }) to label one edge is into.0.has begins into.0.to_is into.0.label_is)
-
-    by : (edge.from.0 < place) ⊎ (edge.from.0 ≡ place) → (IsEdgeInto dense to label edge × (edge.from.0 < place)) ⊎ (found ≡ Some edge)
+    by : (edge.from.0 < place) ⊎ (edge.from.0 ≡ place) → IsEdgeToBelow dense to place edge ⊎ IsEdgeFromTo dense (record { 0 = place }) to edge
     by (inl less) = inl (into.0, less)
-    by (inr same) = inr (it_is found held (ap (λ (k : ℕ). record { 0 = k }) same))
+    by (inr same) = inr (record { has = into.0.has; from_is = ap (λ (k : ℕ). record { 0 = k }) same; to_is = into.0.to_is })
+
+pub into_more : (dense : Graph) (place : ℕ) (edge : Edge) → IsBelow dense (place + 1) edge → IsBelow dense place edge ⊎ IsEdgeTo dense (record { 0 = place }) edge
+into_more dense place edge below = by (cases_below edge.to.0 place below.1)
+  where
+    by : (edge.to.0 < place) ⊎ (edge.to.0 ≡ place) → IsBelow dense place edge ⊎ IsEdgeTo dense (record { 0 = place }) edge
+    by (inl less) = inl (below.0, less)
+    by (inr same) = inr (record { has = below.0; to_is = ap (λ (k : ℕ). record { 0 = k }) same })
+
+-- a label, if there is one, is among so many first ones
+abbrev pub IsAmongFirst : List LinkId → ℕ → Option LinkId → Type 0
+IsAmongFirst labels end label = IfSome label (λ name. (k : ℕ) × (k < end) × (get_or labels k name ≡ name))
+
+-- an edge of a source and a target without a label, or with one of so many first ones
+abbrev pub IsEdgeLabelled : Graph → (from to : PointId) → List LinkId → ℕ → Edge → Type 0
+IsEdgeLabelled table from to labels end edge = IsEdgeFromTo table from to edge × IsAmongFirst labels end edge.label
+
+pub ordinary_first : (dense : Graph) (from to : PointId) (labels : List LinkId) (edge : Edge) → IsEdgeLabelled dense from to labels 0 edge → IsEdgeBetween dense from to None edge
+ordinary_first dense from to labels edge is = record { has = is.0.has; from_is = is.0.from_is; to_is = is.0.to_is; label_is = by edge.label is.1 }
+  where
+    by : (label : Option LinkId) → IsAmongFirst labels 0 label → label ≡ None
+    by None among = refl
+    by (Some name) (k, below, at) = absurd (omega (arith, below))
+
+pub label_more : (dense : Graph) (from to : PointId) (labels : List LinkId) (place : ℕ) (d : LinkId) → place < length labels → (edge : Edge) → IsEdgeLabelled dense from to labels (place + 1) edge
+    → IsEdgeLabelled dense from to labels place edge ⊎ IsEdgeBetween dense from to (Some (get_or labels place d)) edge
+label_more dense from to labels place d inside edge is = by edge.label refl is.1
+  where
+    by : (label : Option LinkId) → edge.label ≡ label → IsAmongFirst labels (place + 1) label → IsEdgeLabelled dense from to labels place edge ⊎ IsEdgeBetween dense from to (Some (get_or labels place d)) edge
+    by None none among = inl (is.0, subst (IsAmongFirst labels place) (sym none) tt)
+    by (Some name) some (k, below, at) = which (cases_below k place below)
+      where
+        which : (k < place) ⊎ (k ≡ place) → IsEdgeLabelled dense from to labels place edge ⊎ IsEdgeBetween dense from to (Some (get_or labels place d)) edge
+        which (inl less) = inl (is.0, subst (IsAmongFirst labels place) (sym some) (k, less, at))
+        which (inr same) =
+            let here : name ≡ get_or labels place d = sym at ∙ (ap (λ (n : ℕ). get_or labels n name) same ∙ get_or_default labels place name d inside) in
+            inr (record { has = is.0.has; from_is = is.0.from_is; to_is = is.0.to_is; label_is = some ∙ ap Some here })
+
+-- the links that begin in a point label edges into it, and no others do
+pub label_begins : (net : Plan) (table : Graph) (to : PointId) (labels : List LinkId) (place : ℕ) (d : LinkId) → IsFor net table → labels ≡ links_from net to → place < length labels
+    → slice_get table.shape.activations (get_or labels place d).0 ≡ Some to
+label_begins net table to labels place d fits is inside =
+    let begins : ℕ × Link → Bool = λ (l : ℕ × Link). l.1.from.0 == to.0 in
+    let all = enumerate_from 0 net.links in
+    let among : Contains (links_from net to) (get_or labels place d) = subst (λ (l : List LinkId). Contains l (get_or labels place d)) is (Contains-get_or labels place d inside) in
+    let (entry, kept, name) = Contains-map_from (λ (l : ℕ × Link). let link : LinkId = record { 0 = l.0 } in link) (filter begins all) (get_or labels place d) among in
+    let from : entry.1.from ≡ to = ap (λ (k : ℕ). record { 0 = k }) (eqb-true entry.1.from.0 to.0 (Contains-filter_passes begins all entry kept)) in
+    let number : entry.0 - 0 ≡ (get_or labels place d).0 = (let same = ap (λ (l : LinkId). l.0) name in omega (arith, same)) in
+    activation_at net table (get_or labels place d).0 entry.1 fits (ap (slice_get net.links) (sym number) ∙ (numbered 0 net.links entry (Contains-filter_from begins all entry kept)).1) ∙ ap Some from
+
+pub label_listed : (net : Plan) (dense : Graph) (from to : PointId) (labels : List LinkId) (end : ℕ) → IsPartialClosure net dense → labels ≡ links_from net to → length labels ≤ end → (edge : Edge) → IsEdgeFromTo dense from to edge
+    → IsEdgeLabelled dense from to labels end edge
+label_listed net dense from to labels end partial_closure is done edge held = (held, by edge.label (derivable_is net partial_closure.plan edge (partial_closure.derivable edge held.has)).labelled)
+  where
+    by : (label : Option LinkId) → IsLabelled net edge label → IsAmongFirst labels end label
+    by None known = tt
+    by (Some name) (link, declared, ends) =
+        let begins : ℕ × Link → Bool = λ (l : ℕ × Link). l.1.from.0 == to.0 in
+        let all = enumerate_from 0 net.links in
+        let number : 0 + name.0 ≡ name.0 = omega arith in
+        let listed : Contains all (name.0, link) = subst (λ (k : ℕ). Contains {X = ℕ × Link} (enumerate_from 0 net.links) (k, link)) number (numbered_contained 0 net.links name.0 link declared) in
+        let same : link.from.0 ≡ to.0 = ap (λ (p : PointId). p.0) (sym ends ∙ held.to_is) in
+        let kept : Contains (filter begins all) (name.0, link) = Contains-filter begins all (name.0, link) listed (grind (arith, nat_tests)) in
+        let (k, below, at) = subst (λ (l : List LinkId). Contains l name) (sym is) (Contains-map (λ (l : ℕ × Link). let link : LinkId = record { 0 = l.0 } in link) (filter begins all) (name.0, link) kept) in
+        (k, omega (arith, below, done), at)
 
 module _ (net : Plan) (dense : Graph) (partial_closure : IsPartialClosure net dense) where
   pub within_points : (end : ℕ) → length net.points ≤ end → (edge : Edge) → HasEdge dense edge → edge.from.0 < end
   within_points end done edge has = let begins = (derivable_is net partial_closure.plan edge (partial_closure.derivable edge has)).from_point in omega (arith, begins, done)
 
-  pub into_more : (place : ℕ) (edge : Edge) → HasEdge dense edge × (edge.label ≡ None) × (edge.to.0 < place + 1) → (HasEdge dense edge × (edge.label ≡ None) × (edge.to.0 < place)) ⊎ IsEdgeInto dense (record { 0 = place }) None edge
-  into_more place edge inside = by (cases_below edge.to.0 place inside.2)
-    where
-      by : (edge.to.0 < place) ⊎ (edge.to.0 ≡ place) → (HasEdge dense edge × (edge.label ≡ None) × (edge.to.0 < place)) ⊎ IsEdgeInto dense (record { 0 = place }) None edge
-      by (inl less) = inl (inside.0, inside.1, less)
-      by (inr same) = inr (record { has = inside.0; to_is = ap (λ (k : ℕ). record { 0 = k }) same; label_is = inside.1 })
-
-  pub ordinary_first : (end : ℕ) → length net.points ≤ end → (edge : Edge) → HasEdge dense edge × IfSome edge.label (λ (name : LinkId). name.0 < 0) → HasEdge dense edge × (edge.label ≡ None) × (edge.to.0 < end)
-  ordinary_first end done edge inside = (inside.0, by edge.label refl inside.1, let ends = (derivable_is net partial_closure.plan edge (partial_closure.derivable edge inside.0)).to_point in omega (arith, ends, done))
-    where
-      by : (label : Option LinkId) → edge.label ≡ label → IfSome label (λ (name : LinkId). name.0 < 0) → edge.label ≡ None
-      by None is below = is
-      by (Some name) is below = absurd (omega (arith, below))
-
-  pub labelled_more : (place : ℕ) (link : Link) → slice_get net.links place ≡ Some link → (edge : Edge) → HasEdge dense edge × IfSome edge.label (λ (name : LinkId). name.0 < place + 1)
-      → (HasEdge dense edge × IfSome edge.label (λ (name : LinkId). name.0 < place)) ⊎ IsEdgeInto dense link.from (Some (record { 0 = place })) edge
-  labelled_more place link declared edge inside = by edge.label refl inside.1
-    where
-      by : (label : Option LinkId) → edge.label ≡ label → IfSome label (λ (name : LinkId). name.0 < place + 1) → (HasEdge dense edge × IfSome edge.label (λ (name : LinkId). name.0 < place))
-          ⊎ IsEdgeInto dense link.from (Some (record { 0 = place })) edge
-      by None is below = inl (inside.0, subst (λ (o : Option LinkId). IfSome o (λ (name : LinkId). name.0 < place)) (sym is) tt)
-      by (Some name) is below = at (cases_below name.0 place below)
-        where
-          at : (name.0 < place) ⊎ (name.0 ≡ place) → (HasEdge dense edge × IfSome edge.label (λ (name : LinkId). name.0 < place)) ⊎ IsEdgeInto dense link.from (Some (record { 0 = place })) edge
-          at (inl less) = inl (inside.0, subst (λ (o : Option LinkId). IfSome o (λ (name : LinkId). name.0 < place)) (sym is) less)
-          at (inr same) =
-              let label_is : edge.label ≡ Some (record { 0 = place }) = is ∙ ap (λ (k : ℕ). Some (record { 0 = k })) same in
-              inr (record { has = inside.0; to_is = labelled_end net dense partial_closure link (record { 0 = place }) declared edge inside.0 label_is; label_is = label_is })
-
-  pub all_labelled : (end : ℕ) → length net.links ≤ end → (edge : Edge) → HasEdge dense edge → HasEdge dense edge × IfSome edge.label (λ (name : LinkId). name.0 < end)
-  all_labelled end done edge has = (has, by edge.label (label_known net partial_closure.plan edge (partial_closure.derivable edge has)))
-    where
-      by : (label : Option LinkId) → IfSome label (λ (name : LinkId). name.0 < length net.links) → IfSome label (λ (name : LinkId). name.0 < end)
-      by None known = tt
-      by (Some name) known = omega (arith, known, done)
-
-pub lowered_itself : (net : Plan) (old new : Graph) (among all : Edge → Type 0) → IsLoweredTo net among old new → ((edge : Edge) → all edge → among edge) → IsLoweredTo net all new new
-lowered_itself net old new among all lower each = record { of_derivable = lower.of_derivable; at_most = IsAtMost-itself new; has = λ edge inside. lower.has edge (each edge inside) }
+  pub within_targets : (end : ℕ) → length net.points ≤ end → (edge : Edge) → HasEdge dense edge → IsBelow dense end edge
+  within_targets end done edge has = (has, let ends = (derivable_is net partial_closure.plan edge (partial_closure.derivable edge has)).to_point in omega (arith, ends, done))
 
 -- the dense table of a partial closure is one
 pub copy_is_partial_closure : (net : Plan) (table dense : Graph) (end : ℕ) → IsPartialClosure net table → length net.points ≤ end → IsLoweredTo net (IsBelow table end) (no_edges (shape_of net)) dense → IsPartialClosure net dense

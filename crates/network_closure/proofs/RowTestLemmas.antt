@@ -23,7 +23,7 @@ use Rattle.std.specs.List.{All}
 use Rattle.labelled_graph.specs.Words.{SaturatesHeld}
 use Rattle.loop_finder.specs.KeptOrders.{place_in_order}
 use Rattle.network_closure.specs.Saturation.{IsPartialClosure, IsEdgeBetween, SaturatesFirsts, SaturatesAll}
-use Rattle.network_closure.specs.RowTest.{AreCovered, GoesBy, IsSequence, points_below, SaturatesAt, SaturatesBefore, SaturatesInto, SaturatesRow, SaturatesUnlessBy}
+use Rattle.network_closure.specs.RowTest.{AreCovered, GoesBy, IsSequence, points_below, SaturatesAt, SaturatesBefore, SaturatesInto, SaturatesUnlessBy}
 use Rattle.network_closure.proofs.ConsequenceLemmas.{held_one, saturates_by_test, saturates_no_firsts}
 use Rattle.network_closure.proofs.PartialClosureLemmas.{derivable_is, saturated_is_closed}
 

@@ -54,11 +54,16 @@ abbrev pub lowered_if : Graph → Option Edge → Graph
 lowered_if table None = table
 lowered_if table (Some edge) = lowered table edge
 
--- an edge of a table, of a target and a label
-pub record IsEdgeInto (table : Graph) (to : PointId) (label : Option LinkId) (edge : Edge) : Type 0 where
+-- an edge of a table of a target
+pub record IsEdgeTo (table : Graph) (to : PointId) (edge : Edge) : Type 0 where
   pub has : HasEdge table edge
   pub to_is : edge.to ≡ to
-  pub label_is : edge.label ≡ label
+
+-- an edge of a table of a source and a target
+pub record IsEdgeFromTo (table : Graph) (from : PointId) (to : PointId) (edge : Edge) : Type 0 where
+  pub has : HasEdge table edge
+  pub from_is : edge.from ≡ from
+  pub to_is : edge.to ≡ to
 
 -- a table saturates an edge: it has, at a weight that is no greater, whatever follows from the edge by the removal of its label, over a
 -- link, or with an edge of the table before it

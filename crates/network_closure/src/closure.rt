@@ -49,7 +49,7 @@ pub fn close<R: Threads + Sync>(
     let dense = dense_of(alloc, net, &table)?;
     let mut dense = relax_depth_first(alloc, net, dense)?;
     loop {
-        lower_to_dense(&mut table, net, &dense)?;
+        lower_to_dense(alloc, &mut table, net, &dense)?;
         match order(alloc, &table, points)? {
             Found::Cycle(_) => return Ok(None),
             Found::Order(order) => {

@@ -1,12 +1,15 @@
 //! The copy of a table into a dense one, and back.
 
-ghost use Rattle.std.specs.Prelude.{◌≡◌, ◌<◌, length, Some, None, IfOk, IfSome, OnOk, slice_get};
+ghost use Rattle.std.specs.Prelude.{◌≡◌, ◌<◌, length, IfOk, IfSome, OnOk};
 ghost use Rattle.std.specs.List.{All, fold};
+ghost use Rattle.net_model.specs.Network.{links_from};
+ghost use Rattle.closure_model.specs.Keys.{IsLabelAt};
 ghost use Rattle.closure_model.specs.Tables.{HasEdge, lowered};
 ghost use Rattle.network_closure.specs.Saturation.{IsPartialClosure, IsOfDerivable, IsDenseOf};
-ghost use Rattle.network_closure.specs.Saturation.{IsLoweredTo, IsEdgeInto, IsStorable, lowered_if};
+ghost use Rattle.network_closure.specs.Saturation.{IsLoweredTo, IsEdgeTo, IsEdgeFromTo};
+ghost use Rattle.network_closure.specs.Saturation.{IsEdgeBetween, IsStorable, lowered_if};
 
-use crate::consequences::{labelled, ordinary};
+use crate::consequences::edge_between;
 use crate::dense::DenseTable;
 use labelled_graph::Table;
 use net_model::{Edge, LinkId, Network, PointId};
@@ -39,8 +42,10 @@ fn lower_to_row(dense: &mut DenseTable, row: &[Edge])
     }
 }
 
-/// Lowers a table to each edge of a dense one.
+/// Lowers a table to each edge of a dense one, in the order of their keys: so an edge that is new
+/// comes to the end of its row.
 pub(crate) fn lower_to_dense(
+    alloc: Global,
     table: &mut Table,
     net: &Network,
     dense: &DenseTable,
@@ -50,52 +55,77 @@ pub(crate) fn lower_to_dense(
     ensures { OnOk result (IsLoweredTo net.now (HasEdge dense.now) table.old table.new) }
 {
     for to in 0..net.points().len() as u32 {
-        lower_into(table, net, dense, PointId(to))?;
-    }
-    for link in 0..net.links().len() as u32 {
-        let to = net.links()[link as usize].from;
-        lower_labelled(table, net, dense, to, LinkId(link))?;
+        let links = net.links_from(alloc, PointId(to))?;
+        lower_into(table, net, dense, PointId(to), links.as_slice())?;
     }
     Ok(())
 }
 
-/// Lowers a table to each ordinary edge of a dense one into a point.
+/// Lowers a table to each edge of a dense one into a point, from which these links go out.
 fn lower_into(
     table: &mut Table,
     net: &Network,
     dense: &DenseTable,
     to: PointId,
+    links: &[LinkId],
 ) -> Result<(), AllocError>
     requires table { IsOfDerivable net.now table.old }
     requires dense { IsPartialClosure net.now dense.now }
     requires to_point { to.0 < length net.now.points }
-    ensures { OnOk result (IsLoweredTo net.now (IsEdgeInto dense.now to None) table.old table.new) }
+    requires links { links.now ≡ links_from net.now to }
+    ensures { OnOk result (IsLoweredTo net.now (IsEdgeTo dense.now to) table.old table.new) }
 {
     for from in 0..net.points().len() as u32 {
-        let found = ordinary(dense, PointId(from), to);
-        lower_to_found(table, found)?;
+        lower_between(table, net, dense, PointId(from), to, links)?;
     }
     Ok(())
 }
 
-/// Lowers a table to each edge of a dense one that is labelled by a link.
-fn lower_labelled(
+/// Lowers a table to each edge of a dense one from a point to another, from which these links go
+/// out.
+fn lower_between(
     table: &mut Table,
     net: &Network,
     dense: &DenseTable,
+    from: PointId,
     to: PointId,
-    link: LinkId,
+    links: &[LinkId],
 ) -> Result<(), AllocError>
     requires table { IsOfDerivable net.now table.old }
     requires dense { IsPartialClosure net.now dense.now }
-    requires link { slice_get dense.now.shape.activations link.0 ≡ Some to }
-    ensures { OnOk result (IsLoweredTo net.now (IsEdgeInto dense.now to (Some link)) table.old
+    requires from_point { from.0 < dense.now.shape.points }
+    requires to_point { to.0 < dense.now.shape.points }
+    requires links { links.now ≡ links_from net.now to }
+    ensures { OnOk result (IsLoweredTo net.now (IsEdgeFromTo dense.now from to) table.old
         table.new) }
 {
-    for from in 0..net.points().len() as u32 {
-        let found = labelled(dense, PointId(from), to, link);
-        lower_to_found(table, found)?;
+    lower_at(table, net, dense, from, to, None)?;
+    for link in links {
+        lower_at(table, net, dense, from, to, Some(*link))?;
     }
+    Ok(())
+}
+
+/// Lowers a table to the edge of a dense one of a source, a target and a label, or without one, if
+/// there is one.
+fn lower_at(
+    table: &mut Table,
+    net: &Network,
+    dense: &DenseTable,
+    from: PointId,
+    to: PointId,
+    label: Option<LinkId>,
+) -> Result<(), AllocError>
+    requires table { IsOfDerivable net.now table.old }
+    requires dense { IsPartialClosure net.now dense.now }
+    requires from_point { from.0 < dense.now.shape.points }
+    requires to_point { to.0 < dense.now.shape.points }
+    requires label { IsLabelAt dense.now.shape to label }
+    ensures { OnOk result (IsLoweredTo net.now (IsEdgeBetween dense.now from to label) table.old
+        table.new) }
+{
+    let found = edge_between(dense, from, to, label);
+    lower_to_found(table, found)?;
     Ok(())
 }
 
