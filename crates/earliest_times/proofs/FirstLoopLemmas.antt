@@ -151,17 +151,18 @@ module _ (edges : List Edge) (walk : List ℕ) where
 same_turned : (edges : List Edge) (walk loop one other : List ℕ) → IsFirstLoopOn edges walk loop → IsTurnedToLowest edges loop one → IsTurnedToLowest edges loop other → one ≡ other
 same_turned edges walk loop one other first turned also =
     let same : turned.at ≡ also.at = (elim (cases_lt turned.at also.at) [
-      | inl less ↦ absurd (apart_in turned.at also.at less also.lowest.inside (lowest_same turned.at also.at turned.lowest.inside also.lowest.inside (turned.lowest.least also.at also.lowest.inside) (also.lowest.least turned.at turned.lowest.inside)))
+      | inl less ↦
+          absurd (apart_in turned.at also.at less also.lowest.inside (lowest_same turned.at also.at (turned.lowest.least also.at also.lowest.inside) (also.lowest.least turned.at turned.lowest.inside)))
       | inr most ↦ elim (cases_lt also.at turned.at) [
-        | inl more ↦ absurd (apart_in also.at turned.at more turned.lowest.inside (lowest_same also.at turned.at also.lowest.inside turned.lowest.inside (also.lowest.least turned.at turned.lowest.inside) (turned.lowest.least also.at also.lowest.inside)))
+        | inl more ↦
+            absurd (apart_in also.at turned.at more turned.lowest.inside (lowest_same also.at turned.at (also.lowest.least turned.at turned.lowest.inside) (turned.lowest.least also.at also.lowest.inside)))
         | inr least ↦ omega (arith, most, least)
       ]
     ]) in
     turned.is ∙ ap (λ (n : ℕ). drop n loop ++ take n loop) same ∙ sym also.is
   where
-    lowest_same : (i j : ℕ) → i < length loop → j < length loop → begins edges (get_or loop i 0) ≤ begins edges (get_or loop j 0) → begins edges (get_or loop j 0) ≤ begins edges (get_or loop i 0)
-        → begins edges (get_or loop i 0) ≡ begins edges (get_or loop j 0)
-    lowest_same i j inside here below above = omega (arith, below, above)
+    lowest_same : (i j : ℕ) → begins edges (get_or loop i 0) ≤ begins edges (get_or loop j 0) → begins edges (get_or loop j 0) ≤ begins edges (get_or loop i 0) → begins edges (get_or loop i 0) ≡ begins edges (get_or loop j 0)
+    lowest_same i j below above = omega (arith, below, above)
 
     shifted : (k : ℕ) → get_or (first.before ++ loop) (length first.before + k) 0 ≡ get_or loop k 0
     shifted k =

@@ -1,6 +1,6 @@
--- Which negative loop is found, if edges have several: the first one on a shortest walk that has more edges than there are points. By weight the shortest
--- walks of at most so many edges are those of Bellman (1958); edges have a negative loop exactly if one edge more than there are points still makes one
--- shorter. The order of the edges decides between walks of one length (this project's own choice).
+-- Which negative loop is found, if edges have several: the first loop on a walk of one edge more than there are points that is the shortest by weight. Edges
+-- have a negative loop exactly if some such walk is shorter than each of fewer edges (Bellman 1958). Between walks that are equally short the order of the
+-- edges decides (this project's own choice).
 use Rattle.std.specs.Prelude.{◌≡◌, ◌≢◌, ◌⊎◌, ◌<◌, ◌≤◌, ◌≤ℤ◌, ◌<ℤ◌, ◌++◌, ℕ, suc, ℤ, List, [], ◌∷◌, map, length, take, drop}
 use Rattle.std.specs.List.{AllByRecursion, AllPairs}
 use Rattle.net_model.specs.declared.ids.PointId.{PointId}
@@ -27,19 +27,19 @@ pub record IsShortestWalk (edges : List Edge) (point : PointId) (most : ℕ) (pl
   pub walks : IsWalkFrom edges point most places
   pub least : (other : List ℕ) → IsWalkFrom edges point most other → total_at edges places ≤ℤ total_at edges other
 
--- a walk from a point of one edge more than so many, or fewer, that is shorter by weight than each of at most so many
+-- a walk from a point, of one edge more than so many or fewer, that is shorter by weight than each of at most so many edges
 pub record IsShorterThanFewer (edges : List Edge) (point : PointId) (most : ℕ) (places : List ℕ) : Type 0 where
   pub walks : IsWalkFrom edges point (suc most) places
   pub shorter : (fewer : List ℕ) → IsWalkFrom edges point most fewer → total_at edges places <ℤ total_at edges fewer
 
--- places are not after others in order: at the first edge where they differ theirs is earlier
+-- places are not after others in order: at the first edge where they differ theirs is earlier, if they differ
 abbrev pub IsNotAfter : (one other : List ℕ) → Type 0
 IsNotAfter [] other = Unit {0}
 IsNotAfter (x ∷ one) [] = ⊥
 IsNotAfter (x ∷ one) (y ∷ other) = (x < y) ⊎ ((x ≡ y) × IsNotAfter one other)
 
--- A shortest walk of more edges than there are points: it starts at the lowest point from which one edge more than there are points makes a shorter walk than
--- all fewer do, and is the first in order of the shortest from there.
+-- A shortest walk of one edge more than there are points. It starts at the lowest point from which such a walk is shorter than each of fewer edges, and of the
+-- shortest from there it is the first in order.
 pub record IsFirstShortestWalk (points : ℕ) (edges : List Edge) (walk : List ℕ) : Type 0 where
   pub start : PointId
   pub longer : IsShorterThanFewer edges start points walk

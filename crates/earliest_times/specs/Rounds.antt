@@ -27,7 +27,8 @@ pub record IsRaisedBy (edges : List Edge) (before after : List ℕ) (point place
   pub begins : (edge_at_place edges place).from.0 ≡ point
   pub reached : slice_index_or after point 0 ≡ required_moment before (edge_at_place edges place)
   pub more : slice_index_or before point 0 < slice_index_or after point 0
-  pub first : (other : ℕ) → other < place → (edge_at_place edges other).from.0 ≡ point → required_moment before (edge_at_place edges other) < slice_index_or after point 0
+  pub first : (other : ℕ) → other < place → (edge_at_place edges other).from.0 ≡ point
+      → required_moment before (edge_at_place edges other) < slice_index_or after point 0
 
 -- what became of a point in a round: it stayed, or was raised by an edge
 abbrev pub Became : List Edge → List ℕ → List ℕ → ℕ → Option ℕ → Type 0

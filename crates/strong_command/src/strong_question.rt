@@ -23,9 +23,9 @@ use strong_plan::laws::{
 use strong_plan::{Strong, strong};
 
 /// What strong schedule a network has, as it is stated: the command `strong` reads a plan, and puts
-/// its least strong schedule, or that it has none and a certificate of that, which is the one that
-/// `IsStrongRefutation` tells. It ends with 0 if it has one, and with 1 if it has none. The delay of
-/// the network decides nothing. What it promises is `StrongPromise`.
+/// its least strong schedule, or that it has none and a certificate of that, the one of which
+/// `IsStrongRefutation` tells. It ends with 0 if it has one, and with 1 if it has none. The delay
+/// of the network decides nothing. What it promises is `StrongPromise`.
 #[derive(Clone, Copy)]
 pub struct StrongQuestion {
     form: PlanForm,

@@ -83,7 +83,8 @@ bounds-edges-place c =
     let l = c.loop-left in
     let level = traced_level c.args.edges.now c.args.points c.args.levels.now c.args.start l.walk.items l.point l.left l.invariant (omega arith) in
     let row : c.as_slice-in-loop-left.result.now ≡ get_or c.args.levels.now (l.left - 1) [] = c.as_slice-in-loop-left.ensures ∙ get_or_read c.args.levels.now (l.left - 1) c.index-levels-left.result level c.index-levels-left.is [] in
-    traced_place c.args.edges.now c.args.points c.args.levels.now c.args.start l.walk.items l.point l.left l.invariant c.unwrap-place.result (omega arith) (ap (λ (r : List (Option ℕ)). get_or r l.point.0 None) (sym row) ∙ c.unwrap-place.ensures)
+    traced_place c.args.edges.now c.args.points c.args.levels.now c.args.start l.walk.items l.point l.left l.invariant c.unwrap-place.result (omega arith)
+    (ap (λ (r : List (Option ℕ)). get_or r l.point.0 None) (sym row) ∙ c.unwrap-place.ensures)
 
 pub loop-left-preserved : goal.loop-left-preserved
 loop-left-preserved c =

@@ -15,8 +15,8 @@ names-requires-clause-within c =
     subst (AreWithin (length net.points)) (sym c.requires.edges) (down_within net c.sound.ensures)
 
 -- the certificate of these lists
-made : (net : Plan) → IsPlan net → (edges : List Edge) (places : List ℕ) (by : List StrongLine) (ring : List (List ℕ)) → edges ≡ map down_edge net.links → IsFirstLoop (length net.points) edges places → by ≡ [] → ring ≡ names_at net edges places
-    → IsStrongRefutation net (record { by = by; ring = ring })
+made : (net : Plan) → IsPlan net → (edges : List Edge) (places : List ℕ) (by : List StrongLine) (ring : List (List ℕ)) → edges ≡ map down_edge net.links → IsFirstLoop (length net.points) edges places
+    → by ≡ [] → ring ≡ names_at net edges places → IsStrongRefutation net (record { by = by; ring = ring })
 made net plan edges places by ring edges_are loop none names =
     let first = ring_refutes net plan places (subst (λ (es : List Edge). IsFirstLoop (length net.points) es places) edges_are loop) in
     let second = subst (λ (es : List Edge). IsStrongRefutation net (record { by = []; ring = names_at net es places })) (sym edges_are) first in
