@@ -9,6 +9,8 @@ mod days;
 #[cfg(test)]
 mod documents;
 #[cfg(test)]
+mod limits;
+#[cfg(test)]
 mod ports;
 #[cfg(test)]
 mod runs;
