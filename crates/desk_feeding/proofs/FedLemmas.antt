@@ -1,12 +1,18 @@
--- What is fed in order.
-use Rattle.std.proofs.Common.{◌≡◌, ℕ, ◌<◌, List, length, sym, subst}
-use Rattle.std.specs.List.{All}
+-- What is fed in order, and what is done at the desk.
+use Rattle.std.proofs.Common.{◌≡◌, ℕ, suc, ◌+◌, ◌<◌, List, [], ◌∷◌, ◌++◌, length, take, get_or, ap, sym, subst, ◌∙◌, arith}
+use Rattle.std.specs.List.{All, cons_option}
+use Rattle.std.proofs.lemmas.List.{take_more}
+use Rattle.std.proofs.lemmas.List.Elements.{filter_map-append}
 use Rattle.std.proofs.lemmas.List.Sorted.{All-permutation}
-use Rattle.net_model.specs.Network.{Plan, IsPoint}
+use Rattle.net_model.specs.Network.{Plan, IsPoint, activation}
+use Rattle.net_model.specs.declared.ids.LinkId.{LinkId}
 use Rattle.net_model.specs.declared.ids.PointId.{PointId}
 use Rattle.execution_model.specs.Feeds.{Execution, IsFed}
 use Rattle.execution_model.specs.declared.feed_answers.Fed.{Fed}
+use Rattle.net_model.specs.Moments.{Moments}
+use Rattle.sensor_desk.specs.Desks.{DeskSeen, DeskSeatSeen, IsSeatOfDesk}
 use Rattle.desk_feeding.specs.Fed.{IsFedInOrder}
+use Rattle.desk_feeding.specs.Feedings.{FeedingSeen, FeedsAtDesk, HasReadOpen, IsFeedingOf, ReadsIfOpen, further, links_to, passes, reads}
 use Rattle.desk_feeding.specs.Ordered.{IsInOrder}
 
 module _ (listed ordered : List PointId) (is : IsInOrder listed ordered) where
@@ -25,3 +31,28 @@ module _ (listed ordered : List PointId) (is : IsInOrder listed ordered) where
     order = is;
     fed = subst (λ (l : List PointId). IsFed before moment l answer after) same fed;
   }
+
+-- the desk is still that of the network
+pub network_stays : (net : Plan) (moments : Moments) (moment : ℕ) (named : List PointId) (before after : FeedingSeen) → IsFeedingOf net before → FeedsAtDesk net moments moment named before after → IsFeedingOf net after
+network_stays net moments moment named before after is feeds = ap (λ (desk : DeskSeen). desk.about.net.value) feeds.same ∙ is
+
+-- one point more
+pub one_more : (net : Plan) (moments : Moments) (before : DeskSeatSeen) (number : ℕ) (between after : DeskSeatSeen) → HasReadOpen net moments before number between
+    → ReadsIfOpen net moments (record { 0 = number }) between after → HasReadOpen net moments before (number + 1) after
+one_more net moments before number between after so_far here =
+    let next : suc number ≡ number + 1 = omega arith in
+    subst (λ (n : ℕ). HasReadOpen net moments before n after) next (further number between after so_far here)
+
+-- a seat that read is of the same desk
+pub reads_of : (net : Plan) (moments : Moments) (point : PointId) (desk : DeskSeen) (before after : DeskSeatSeen) → IsSeatOfDesk desk before → ReadsIfOpen net moments point before after → IsSeatOfDesk desk after
+reads_of net moments point desk before after of (passes none same) = subst (IsSeatOfDesk desk) (sym same) of
+reads_of net moments point desk before after of (reads link found at step) = subst (IsSeatOfDesk desk) (sym step.after_is) (record { desk_is = of.desk_is; about_is = of.about_is })
+
+-- the link of one point more
+pub links_more : (net : Plan) (points : List PointId) (i : ℕ) (none : PointId) (before after : List LinkId) → i < length points → before ≡ links_to net (take i points)
+    → after ≡ before ++ cons_option (activation net (get_or points i none)) [] → after ≡ links_to net (take (i + 1) points)
+links_more net points i none before after within so_far is =
+    let point = get_or points i none in
+    let more : links_to net (take (i + 1) points) ≡ links_to net (take i points) ++ cons_option (activation net point) [] =
+    ap (links_to net) (take_more points i none within) ∙ filter_map-append (activation net) (take i points) (point ∷ []) in
+    is ∙ (ap (λ (links : List LinkId). links ++ cons_option (activation net point) []) so_far ∙ sym more)

@@ -1,11 +1,15 @@
 //! The feeders of an execution, and the buffers that a line of events needs.
 
-ghost use Rattle.std.specs.Prelude.{◌≡◌, ◌<◌, ◌≤◌, ◌^◌, length, vec_len, IfOk, OnOk};
+ghost use Rattle.std.specs.Prelude.{◌≡◌, ◌<◌, ◌≤◌, ◌^◌, ◌+◌, ◌++◌, [], length, vec_len, IfOk};
+ghost use Rattle.std.specs.Prelude.{OnOk};
 ghost use Rattle.std.specs.Vec.{vec_capacity};
-ghost use Rattle.std.specs.List.{All};
-ghost use Rattle.net_model.specs.Network.{IsPoint};
+ghost use Rattle.std.specs.List.{All, cons_option};
+ghost use Rattle.net_model.specs.Network.{IsPoint, activation};
 ghost use Rattle.sensor_desk.specs.Desks.{IsSeatOfDesk, HasLink};
+ghost use Rattle.sensor_desk.specs.Follower.{open_link};
 ghost use Rattle.desk_feeding.specs.Fed.{IsFedInOrder, most_feeders, most_listed};
+ghost use Rattle.desk_feeding.specs.Feedings.{ArePosted, FeedsAtDesk, HasReadOpen, IsFeedingOf};
+ghost use Rattle.desk_feeding.specs.Feedings.{ReadsIfOpen, links_to};
 ghost use Rattle.desk_feeding.specs.Ordered.{IsInOrder};
 
 use crate::point_order::{first_where_same, put_in_order};
@@ -20,7 +24,8 @@ use std::thread::Threads;
 /// How many points a line of events may list.
 const MOST_LISTED: usize = 32_768;
 
-/// The desk of an execution with its feeders. Contracts see it as the network.
+/// The desk of an execution with its feeders. Contracts see it as the desk, the seat by which it is
+/// read, and the feeders.
 #[derive(Drop)]
 pub struct Feeding {
     desk: Desk,
@@ -32,13 +37,19 @@ pub struct Feeding {
 }
 
 impl Model for Feeding {
-    ghost use Rattle.net_model.specs.Network.{Plan};
     ghost use Rattle.std.specs.Vec.{vec_capacity};
     ghost use Rattle.desk_feeding.specs.Fed.{IsFeeding};
+    ghost use Rattle.desk_feeding.specs.Feedings.{FeedingSeen, feeding_code};
 
-    ghost Value = { Plan };
+    ghost Value = { FeedingSeen };
 
-    ghost view = { λ feeding. feeding.desk.about.net.value };
+    ghost coded = { feeding_code };
+
+    ghost view = { λ feeding. record {
+      desk = feeding.desk;
+      seat = feeding.seat;
+      feeders = feeding.feeders.items;
+    } };
 
     ghost invariant = { λ feeding. IsFeeding feeding.desk feeding.seat feeding.feeders.items
         (vec_capacity feeding.ordered) (vec_capacity feeding.links) (vec_capacity feeding.read) };
@@ -51,7 +62,8 @@ impl Feeding {
     /// refused.
     pub fn new(alloc: Global, net: &Network, count: u32) -> Result<Feeding, AllocError>
         requires count { (1 ≤ count) × (count ≤ most_feeders) }
-        ensures { IfOk result (λ feeding. feeding ≡ net.now) }
+        ensures net { IfOk result (IsFeedingOf net.now) }
+        ensures count { IfOk result (λ feeding. length feeding.feeders ≡ count) }
     {
         let buffers = buffers_for(alloc, net.links().len())?;
         let (desk, mut seat) = Desk::new(alloc, net, count + 1)?;
@@ -73,9 +85,9 @@ impl Feeding {
 
     /// Feeds an executor of the network of the desk at a moment with the listed points, in the
     /// order of their numbers. The links that end in them are posted by all feeders, each in its
-    /// own thread, and read back; what was read is fed if it equals what was listed and each post
-    /// was the first, else what was listed. It takes no memory. That the points were read from the
-    /// desk no clause says: what is fed is the same either way. How many threads a line starts is
+    /// own thread, and the link of each open point is read back; what was read is fed if it equals
+    /// what was listed and each post was the first, else what was listed. It takes no memory. Which
+    /// of the two is fed no clause says: they are the same. How many threads a line starts is
     /// counted by `tools/probe threads`: one less than there are feeders.
     pub fn feed<R: Threads + Sync>(
         &mut self,
@@ -85,12 +97,13 @@ impl Feeding {
         moment: u64,
         listed: &[PointId],
     ) -> Fed
-        requires net { self.old ≡ net.now }
+        requires net { IsFeedingOf net.now self.old }
         requires executor { length executor.old.setting.dispatch ≡ length net.now.points }
         requires moment { moment < 2 ^ 63 }
         requires listed { All (IsPoint net.now) listed.now × (length listed.now ≤ most_listed) }
         ensures fed { IsFedInOrder executor.old moment listed.now result executor.new }
-        ensures net { self.new ≡ self.old }
+        ensures desk { FeedsAtDesk net.now executor.old.moments moment listed.now self.old
+            self.new }
     {
         fill_in_order(&mut self.ordered, listed);
         let all = links_of(net, self.ordered.as_slice(), &mut self.links);
@@ -128,10 +141,9 @@ fn buffers_for(alloc: Global, links: usize) -> Result<FeedBuffers, AllocError>
 
 /// A feeder for each seat that may be split from the first one.
 fn feeders_of(alloc: Global, desk: &Desk, seat: &mut DeskSeat) -> Result<Vec<Feeder>, AllocError>
-    requires seat { IsSeatOfDesk desk.now seat.old }
-    requires some { 0 < seat.old.view.to_split }
+    requires { IsSeatOfDesk desk.now seat.old }
     ensures seat { OnOk result (IsSeatOfDesk desk.now seat.new) }
-    ensures some { IfOk result (λ feeders. 0 < vec_len feeders) }
+    ensures count { IfOk result (λ feeders. vec_len feeders ≡ seat.old.view.to_split) }
     ensures seats { IfOk result (λ feeders. All (λ feeder. IsSeatOfDesk desk.now feeder.seat)
         feeders.items) }
 {
@@ -170,6 +182,7 @@ fn fill(into: &mut Vec<PointId>, points: &[PointId])
 fn links_of(net: &Network, points: &[PointId], links: &mut Vec<LinkId>) -> bool
     requires spare_capacity { length points.now ≤ vec_capacity links.old }
     requires points { All (IsPoint net.now) points.now }
+    ensures to { links.new.items ≡ links_to net.now points.now }
     ensures links { All (λ link. link.0 < length net.now.links) links.new.items }
     ensures few { length links.new.items ≤ length points.now }
     ensures spare_capacity { vec_capacity links.new ≡ vec_capacity links.old }
@@ -177,12 +190,30 @@ fn links_of(net: &Network, points: &[PointId], links: &mut Vec<LinkId>) -> bool
     links.clear();
     let mut all = true;
     for point in points {
-        match net.activation(*point) {
-            Some(link) => links.push_reserved(link),
-            None => all = false,
-        }
+        let ends = push_link(net, *point, links);
+        all = all && ends;
     }
     all
+}
+
+/// Adds the link that ends in a point to links, and answers whether one does.
+fn push_link(net: &Network, point: PointId, links: &mut Vec<LinkId>) -> bool
+    requires point { IsPoint net.now point }
+    requires spare_capacity { length links.old.items < vec_capacity links.old }
+    requires links { All (λ link. link.0 < length net.now.links) links.old.items }
+    ensures to { links.new.items ≡ links.old.items ++ cons_option
+        (activation net.now point) [] }
+    ensures links { All (λ link. link.0 < length net.now.links) links.new.items }
+    ensures few { length links.new.items ≤ length links.old.items + 1 }
+    ensures spare_capacity { vec_capacity links.new ≡ vec_capacity links.old }
+{
+    match net.activation(point) {
+        Some(link) => {
+            links.push_reserved(link);
+            true
+        }
+        None => false,
+    }
 }
 
 /// Posts a moment for links by all feeders, and answers whether each post was the first for its
@@ -199,7 +230,7 @@ fn post<R: Threads + Sync>(
     requires seats { All (λ feeder. IsSeatOfDesk desk.now feeder.seat) feeders.old.items }
     requires links { All (HasLink desk.now) links.now }
     requires moment { moment < 2 ^ 63 }
-    ensures some { 0 < vec_len feeders.new }
+    ensures posted { ArePosted links.now moment feeders.old.items feeders.new.items }
     ensures seats { All (λ feeder. IsSeatOfDesk desk.now feeder.seat) feeders.new.items }
 {
     if links.is_empty() {
@@ -215,7 +246,8 @@ fn none_met(feeders: &[Feeder]) -> bool {
     feeders.iter().all(|feeder| feeder.met.is_none())
 }
 
-/// The open points whose links stand at a moment, in order.
+/// Reads the links of the open points, in order, and keeps the points whose links stand at a
+/// moment.
 fn read_open(
     desk: &Desk,
     seat: &mut DeskSeat,
@@ -227,6 +259,8 @@ fn read_open(
     requires seat { IsSeatOfDesk desk.now seat.old }
     requires net { desk.now.about.net.value ≡ net.now }
     requires executor { length executor.now.setting.dispatch ≡ length net.now.points }
+    ensures reads { HasReadOpen net.now executor.now.moments seat.old (length net.now.points)
+        seat.new }
     ensures seat { IsSeatOfDesk desk.now seat.new }
     ensures spare_capacity { vec_capacity read.new ≡ vec_capacity read.old }
 {
@@ -239,7 +273,7 @@ fn read_open(
     }
 }
 
-/// Whether a point is open and its link stands at a moment.
+/// Reads the link of a point if it is open, and answers whether it stands at a moment.
 fn stands_at(
     desk: &Desk,
     seat: &mut DeskSeat,
@@ -252,13 +286,23 @@ fn stands_at(
     requires net { desk.now.about.net.value ≡ net.now }
     requires executor { length executor.now.setting.dispatch ≡ length net.now.points }
     requires point { IsPoint net.now point }
-    ensures { IsSeatOfDesk desk.now seat.new }
+    ensures reads { ReadsIfOpen net.now executor.now.moments point seat.old seat.new }
+    ensures seat { IsSeatOfDesk desk.now seat.new }
 {
-    if executor.moment_of(point).is_some() {
-        return false;
-    }
-    match net.activation(point) {
+    match open_link(net, executor, point) {
         None => false,
         Some(link) => desk.read(seat, link) == Some(moment),
+    }
+}
+
+/// The link that ends in a point, if the point is open: contingent, and without a moment.
+fn open_link(net: &Network, executor: &ForwardExecutor, point: PointId) -> Option<LinkId>
+    requires executor { length executor.now.setting.dispatch ≡ length net.now.points }
+    requires point { IsPoint net.now point }
+    ensures { result ≡ open_link net.now executor.now.moments point }
+{
+    match executor.moment_of(point) {
+        Some(_) => None,
+        None => net.activation(point),
     }
 }

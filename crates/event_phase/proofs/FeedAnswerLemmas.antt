@@ -19,13 +19,15 @@ use Rattle.command_engine.specs.declared.endings.End.{End}
 use Rattle.command_engine.specs.declared.endings.End.TheVariants as ends
 use Rattle.command_engine.specs.declared.machines.Flow.{Flow}
 use Rattle.command_engine.specs.declared.machines.Flow.TheVariants.{Continue, Finish}
-use Rattle.event_phase.specs.EventRuns.{AreExecutingParts, EventRun, IsEventRun, event_run_by, event_run_in}
+use Rattle.desk_feeding.specs.Feedings.{FeedingSeen}
+use Rattle.event_phase.specs.EventRuns.{AreExecutingParts, EventRun, IsDeskOf, IsEventRun, event_run_by, event_run_in}
 use Rattle.event_phase.specs.declared.phase.ExecutingParts.{ExecutingParts}
 use Rattle.event_phase.specs.EventAnswers.{event_fault_line, NamesPoints}
-use Rattle.event_phase.specs.EventPhase.{AnswersEvent, AnswersRead, EndsAmong, FeedsAmong, FeedsNamed, PutsFed, TakesEvent}
+use Rattle.event_phase.specs.EventPhase.{AnswersEvent, AnswersRead, EndsAmong, FeedsAmong, FeedsNamed, IsDeskAfter, PutsFed, TakesEvent}
 use Rattle.event_phase.specs.CompletionOrders.{CompletionOrder, completion_order_where}
 use Rattle.common_answers.specs.Faults.{fault_end}
 use Rattle.common_answers.specs.declared.faults.Fault.TheVariants.{Format}
+use Rattle.desk_feeding.proofs.FedLemmas.{network_stays}
 use Rattle.event_phase.proofs.CompletionOrderLemmas.{completion_order_keeps}
 use Rattle.event_phase.proofs.CauseLemmas.{IsActOf, acts_while_of_points, fed_acts_of_points, open_point, cause_names}
 
@@ -110,6 +112,18 @@ keeps_event_run completion_order net execution moment listed fed.Acts after numb
 keeps_event_run completion_order net execution moment listed (fed.Refused why) after number acts due put ended event_run is count puts none = absurd (cc (puts.1, none))
 keeps_event_run completion_order net execution moment listed (fed.Ended why) after number acts due put ended event_run is count puts none = absurd (cc (puts.1, none))
 
+-- ---- the desk
+-- it stays that of the network
+desk_stays : (net : Plan) (moments : Moments) (moment : ℕ) (named : List PointId) (before after : Option FeedingSeen) → IsDeskOf net before → IsDeskAfter net moments moment named before after → IsDeskOf net after
+desk_stays net moments moment named None after is same = subst (IsDeskOf net) (sym same) tt
+desk_stays net moments moment named (Some feeding) after is (later, same, feeds) = subst (IsDeskOf net) (sym same) (network_stays net moments moment named feeding later is feeds)
+
+-- and so does the order in which points are fed
+order_stays : (net : Plan) (moments : Moments) (moment : ℕ) (named : List PointId) (before after : Option FeedingSeen) → IsDeskAfter net moments moment named before after
+    → completion_order_where after ≡ completion_order_where before
+order_stays net moments moment named None after same = ap (λ (feeding : Option FeedingSeen). completion_order_where feeding) same
+order_stays net moments moment named (Some feeding) after (later, same, feeds) = ap (λ (feeding : Option FeedingSeen). completion_order_where feeding) same
+
 -- the points that a line named are fed in the completion order
 module _ (before : ExecutingParts) (moment : ℕ) (answer : Fed) (after : ExecutingParts) (feeds : FeedsNamed before moment answer after) (are : AreExecutingParts before) where
   named_among : All (IsPoint before.net) before.events → length after.executor.acts ≤ length after.executor.setting.dispatch → FeedsAmong before.net answer after.executor.acts
@@ -138,15 +152,18 @@ module _ (before : ExecutingParts) (moment : ℕ) (answer : Fed) (after : Execut
 
     pub named_keeps : length after.executor.moments ≡ length after.executor.setting.dispatch → ended ≡ None → AreExecutingParts after
     named_keeps count none =
-        let from : AreExecutingParts (record before { executor = after.executor }) = record {
-          event_run = keeps_event_run (completion_order_where before.feeding) before.net before.executor moment feeds.points answer after.executor number after.executor.acts due put ended are.event_run feeds.fed count puts_before none;
-          desk = are.desk;
+        let keeps = keeps_event_run (completion_order_where before.feeding) before.net before.executor moment feeds.points answer after.executor number after.executor.acts due put ended are.event_run feeds.fed count puts_before none in
+        let from : AreExecutingParts (record before { executor = after.executor; feeding = after.feeding }) = record {
+          event_run = record { moments = keeps.moments; dispatch = keeps.dispatch; goes_on = keeps.goes_on };
+          desk = desk_stays before.net before.executor.moments moment before.events before.feeding after.feeding are.desk feeds.desk;
         } in
         subst AreExecutingParts (sym feeds.same) from
 
   -- the execution that they make up then
   pub event_run_after : event_run_in after ≡ record (event_run_in before) { execution = after.executor }
-  event_run_after = ap event_run_in feeds.same
+  event_run_after =
+      ap event_run_in feeds.same
+      ∙ ap (λ (order : CompletionOrder). event_run_by order before.net after.executor) (order_stays before.net before.executor.moments moment before.events before.feeding after.feeding feeds.desk)
 
 -- ---- the end
 module _ (execution : Execution) (answer : Finished) (after : Execution) (going : execution.refused ≡ None) where

@@ -2,6 +2,7 @@
 use Rattle.std.specs.Prelude.{◌≡◌, ◌≤◌, ◌⊎◌, ℕ, ◌+◌, ◌*◌, List, [], ◌++◌, length, Option, Some, None}
 use Rattle.std.specs.List.{All}
 use Rattle.net_model.specs.Network.{Plan, IsPoint}
+use Rattle.net_model.specs.Moments.{Moments}
 use Rattle.net_model.specs.declared.format.FormatKind.{FormatKind}
 use Rattle.net_model.specs.declared.format.FormatKind.TheVariants.{NoEnd}
 use Rattle.net_model.specs.Limits.{most_moment}
@@ -14,6 +15,7 @@ use Rattle.execution_model.specs.declared.feed_answers.Fed.{Fed}
 use Rattle.execution_model.specs.declared.feed_answers.Fed.TheVariants as fed
 use Rattle.execution_model.specs.declared.feed_answers.Finished.{Finished}
 use Rattle.execution_model.specs.declared.feed_answers.Finished.TheVariants as finished
+use Rattle.desk_feeding.specs.Feedings.{FeedingSeen, FeedsAtDesk}
 use Rattle.command_engine.specs.Limits.{least_capacity}
 use Rattle.command_engine.specs.Machine.{Machine}
 use Rattle.command_engine.specs.declared.endings.End.{End}
@@ -88,12 +90,19 @@ IsMomentWithin blank = Unit {0}
 IsMomentWithin (completed moment points) = moment ≤ most_moment
 IsMomentWithin done = Unit {0}
 
--- the points that the last line named are fed at a moment, in the completion order; nothing changes but the execution
+-- at a desk, if there is one, the points that a line named are posted at a moment and read
+abbrev pub IsDeskAfter : Plan → Moments → (moment : ℕ) → (named : List PointId) → Option FeedingSeen → Option FeedingSeen → Type 0
+IsDeskAfter net moments moment named None after = after ≡ None
+IsDeskAfter net moments moment named (Some feeding) after =
+    (later : FeedingSeen) × (after ≡ Some later) × FeedsAtDesk net moments moment named feeding later
+
+-- the points that the last line named are fed at a moment, in the completion order; nothing changes but the execution, and what was done at the desk
 pub record FeedsNamed (before : ExecutingParts) (moment : ℕ) (answer : Fed) (after : ExecutingParts) : Type 0 where
   pub points : List PointId
   pub ordered : AreInCompletionOrder (completion_order_where before.feeding) before.events points
   pub fed : IsFed before.executor moment points answer after.executor
-  pub same : after ≡ record before { executor = after.executor }
+  pub desk : IsDeskAfter before.net before.executor.moments moment before.events before.feeding after.feeding
+  pub same : after ≡ record before { executor = after.executor; feeding = after.feeding }
 
 -- if the run continues, it does for the same network
 abbrev pub GoesWith : Plan → Flow EventRun → Type 0

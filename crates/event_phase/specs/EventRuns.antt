@@ -2,6 +2,7 @@
 use Rattle.std.specs.Prelude.{◌≡◌, length, Option, Some, None}
 use Rattle.net_model.specs.Network.{Plan}
 use Rattle.execution_model.specs.Feeds.{Execution}
+use Rattle.desk_feeding.specs.Feedings.{FeedingSeen, IsFeedingOf}
 use Rattle.event_phase.specs.CompletionOrders.{CompletionOrder, as_named, completion_order_where}
 use Rattle.event_phase.specs.declared.phase.ExecutingParts.{ExecutingParts}
 
@@ -30,9 +31,9 @@ abbrev pub event_run_in : ExecutingParts → EventRun
 event_run_in parts = event_run_by (completion_order_where parts.feeding) parts.net parts.executor
 
 -- a desk, if there is one, is that of the network
-abbrev pub IsDeskOf : Plan → Option Plan → Type 0
+abbrev pub IsDeskOf : Plan → Option FeedingSeen → Type 0
 IsDeskOf net None = Unit {0}
-IsDeskOf net (Some desk) = desk ≡ net
+IsDeskOf net (Some feeding) = IsFeedingOf net feeding
 
 -- parts make up an execution of their network
 pub record AreExecutingParts (parts : ExecutingParts) : Type 0 where

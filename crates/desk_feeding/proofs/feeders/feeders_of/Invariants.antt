@@ -1,4 +1,4 @@
-use Rattle.std.proofs.Common.{◌≡◌, ◌<◌, ◌+◌, vec_len}
+use Rattle.std.proofs.Common.{◌≡◌, ◌+◌, vec_len}
 use Rattle.std.specs.List.{All}
 use Rattle.sensor_desk.specs.Desks.{IsSeatOfDesk}
 use Rattle.sensor_desk.specs.declared.feeder.Feeder.{Feeder}
@@ -8,7 +8,7 @@ abbrev pub invariant-loop-seat : goal.invariant-loop-seat
 invariant-loop-seat l = record {
   seats : All (λ (feeder : Feeder). IsSeatOfDesk l.desk feeder.seat) l.feeders.items;
   seat : IsSeatOfDesk l.desk l.seat;
-  some : 0 < vec_len l.feeders + l.seat.view.to_split;
+  count : vec_len l.feeders + l.seat.view.to_split ≡ l.fn.seat.view.to_split;
 }
 
 abbrev pub decreases-loop-seat : goal.decreases-loop-seat
