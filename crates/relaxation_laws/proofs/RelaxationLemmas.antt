@@ -1,8 +1,8 @@
 -- What a strategy of a network is worth in one to which that is relaxed.
-use Rattle.std.proofs.Common.{◌≡◌, ℕ, ◌+◌, ◌≤◌, List, [], ◌∷◌, length, get_or, Option, Some, refl, sym, ap, ◌∙◌, arith}
+use Rattle.std.proofs.Common.{◌≡◌, ℕ, ◌+◌, ◌≤◌, List, [], ◌∷◌, ◌++◌, length, get_or, Option, Some, refl, sym, ap, ◌∙◌, arith}
 use Rattle.std.specs.List.{All, AllZip}
 use Rattle.std.proofs.lemmas.Int.{ints}
-use Rattle.std.proofs.lemmas.List.Elements.{All-contains, All-contains_itself, All-weaker}
+use Rattle.std.proofs.lemmas.List.Elements.{All-contains, All-contains_itself, All-push, All-weaker, Contains-append_left, Contains-push}
 use Rattle.net_model.specs.Network.{IsPlan, Plan}
 use Rattle.net_model.specs.declared.part.Bound.{Bound}
 use Rattle.net_model.specs.declared.part.Link.{Link}
@@ -64,6 +64,19 @@ law_relaxations_compose = record {
 
 pub law_lower_delays_relax : LowerDelaysRelax
 law_lower_delays_relax net delay lower = record { points = refl; bounds = implied_itself net.bounds; links = narrowed_itself net.links; delay = lower }
+
+-- one bound more in both, in the second one that is as loose or looser
+pub relaxed_with_bound : (net other : Plan) → IsRelaxed net other → (bound loosened : Bound) → IsLoosened bound loosened
+    → IsRelaxed (record net { bounds = net.bounds ++ bound ∷ [] }) (record other { bounds = other.bounds ++ loosened ∷ [] })
+relaxed_with_bound net other relaxed bound loosened looser = record {
+  points = relaxed.points;
+  bounds = All-push (IsImplied (net.bounds ++ bound ∷ [])) other.bounds loosened
+      (All-weaker (IsImplied net.bounds) (IsImplied (net.bounds ++ bound ∷ []))
+      (λ further implied. record { implying = implied.implying; among = Contains-append_left net.bounds (bound ∷ []) implied.implying implied.among; loosened = implied.loosened }) other.bounds relaxed.bounds)
+      (record { implying = bound; among = Contains-push net.bounds bound; loosened = looser });
+  links = relaxed.links;
+  delay = relaxed.delay;
+}
 
 -- ---- situations and schedules
 situation_of : (links others : List Link) (durations : List ℕ) → AllZip IsNarrowed links others → AllZip IsDuration others durations → AllZip IsDuration links durations

@@ -80,7 +80,7 @@ module _ (net : Plan) (plan : IsPlan net) (numbers : HasPlanNumbers net) (from t
     added : edited net (AddBound name (point_name net.points from) (point_name net.points to) most) ≡ Ok (with_goal net (record { name = name; from = from; to = to }) most)
     added = goal_added net (record { name = name; from = from; to = to }) most plan for low high
 
-    goal_sound : IsPlan (with_goal net (record { name = name; from = from; to = to }) most)
+    pub goal_sound : IsPlan (with_goal net (record { name = name; from = from; to = to }) most)
     goal_sound =
         (law_edits_keep_sound net (AddBound name (point_name net.points from) (point_name net.points to) most) (with_goal net (record { name = name; from = from; to = to }) most) added).sound plan
         (is_named, plan.points_named from.0 [] from_inside, plan.points_named to.0 [] to_inside)
@@ -91,7 +91,7 @@ module _ (net : Plan) (plan : IsPlan net) (numbers : HasPlanNumbers net) (from t
 
 -- ---- its certificates
 module _ (query : PlanPoints) (plan : IsPlan query.net) (numbers : HasPlanNumbers query.net) (from_inside : IsPoint query.net query.from) (to_inside : IsPoint query.net query.to) (roomy : ¬ IsFull query.net) where
-  spare_of : IsControllable query.net → length query.net.bounds < most_bounds
+  pub spare_of : IsControllable query.net → length query.net.bounds < most_bounds
   spare_of controllable =
       elim (cases_lt (length query.net.bounds) most_bounds) [
         | inl below ↦ below
@@ -121,7 +121,7 @@ module _ (query : PlanPoints) (plan : IsPlan query.net) (numbers : HasPlanNumber
       at_number name has.named has.controllable lowest (omega (arith, ints)) (omega (arith, ints)) proof claim.Controllable has.says.proved.accepted
 
 -- ---- by the input
-points_made : (reported : ℕ) (net : Plan) (from to : Option PointId) (query : PlanPoints) → ◌≡◌ {A = Result PlanPoints Fault} (points_by reported net from to) (Ok query)
+pub points_made : (reported : ℕ) (net : Plan) (from to : Option PointId) (query : PlanPoints) → ◌≡◌ {A = Result PlanPoints Fault} (points_by reported net from to) (Ok query)
     → (from ≡ Some query.from) × (to ≡ Some query.to) × (net ≡ query.net)
 points_made reported net None to query is = absurd (cc)
 points_made reported net (Some from) None query is = absurd (cc)

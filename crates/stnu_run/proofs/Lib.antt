@@ -13,3 +13,5 @@ pub mod PrintedLemmas
 pub mod PrintedPlanLemmas
 pub mod SessionProofLemmas
 pub mod DeadlineProofLemmas
+pub mod RelaxedPlanLemmas
+pub mod RelaxedDeadlineLemmas

@@ -4,3 +4,5 @@ pub mod Table
 pub mod PrintedCertificates
 pub mod SessionCertificates
 pub mod DeadlineCertificates
+pub mod RelaxedPlans
+pub mod RelaxedDeadlines

@@ -5,6 +5,8 @@
 mod certificate_laws;
 mod dispatch;
 mod laws;
+mod relaxed_deadline_laws;
+mod relaxed_plan_laws;
 mod table_laws;
 
 pub use certificate_laws::{
@@ -14,6 +16,8 @@ pub use certificate_laws::{
 pub use command_contracts::Status;
 pub use dispatch::run;
 pub use laws::{law_defined_run_is_one, law_feeders_change_nothing, law_workers_change_nothing};
+pub use relaxed_deadline_laws::law_relaxed_deadlines_are_no_greater;
+pub use relaxed_plan_laws::law_relaxed_plans_stay_controllable;
 pub use table_laws::{
     law_runs_refuse_words_outside_the_table, law_words_are_refused_outside_the_table,
 };
