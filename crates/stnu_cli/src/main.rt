@@ -5,7 +5,10 @@
 #![tactic(auto)]
 
 ghost use Rattle.std.specs.Prelude.{map, string_bytes};
-ghost use Rattle.stnu_run.specs.PrintedCertificates.{RunPrintsAccepted};
+ghost use Rattle.stnu_run.specs.AcrossCommands.{AgreesAcrossCommands};
+ghost use Rattle.stnu_run.specs.EngineLaws.{EngineIsLawful};
+ghost use Rattle.stnu_run.specs.RunClaims.{HoldsOfRun};
+ghost use Rattle.stnu_run.specs.RunLaws.{IsOnlyDefined, OptionsChangeNothing, PutsAccepted};
 ghost use Rattle.stnu_run.specs.Table.{RefusesOutside};
 
 use plan_port::{Port, StdPort};
@@ -15,7 +18,7 @@ use std::io::ErrorKind;
 use std::process::ExitCode;
 use std::rt::Env;
 use std::thread::Threads;
-use stnu_run::{Status, law_runs_print_accepted, law_runs_refuse_words_outside_the_table, run};
+use stnu_run::{Status, law_runs_are_lawful, run};
 
 /// The exit status if there is no memory for the words.
 const NO_MEMORY: u8 = 8;
@@ -31,9 +34,10 @@ fn given_words<R: Env + AllocGlobal>(rt: &R) -> Result<Vec<String>, AllocError> 
 }
 
 /// Answers words over a port. The status is 2 only if the words are not in the table of commands;
-/// and there it is, unless the refusal was not put, at 6, or there was no memory, at 8. What
-/// `check` or `strong` put as a certificate is accepted by `judge`, given the plan of the input
-/// before it.
+/// and there it is, unless the refusal was not put, at 6, or there was no memory, at 8. What is put
+/// as a certificate `judge` accepts, no other bytes are defined, the number of workers and of
+/// feeders and the engine change nothing, and other commands say the same of the same plan. The
+/// laws of the engine hold.
 fn answer<R: Threads + Sync, P: Port>(
     rt: &R,
     alloc: Global,
@@ -41,11 +45,17 @@ fn answer<R: Threads + Sync, P: Port>(
     port: &mut P,
 ) -> Status
     ensures refuses { RefusesOutside (map string_bytes words.now.items) result }
-    ensures accepted { RunPrintsAccepted (map string_bytes words.now.items) result
+    ensures accepted { HoldsOfRun PutsAccepted (map string_bytes words.now.items) result
         (P.seen port.old) (P.seen port.new) }
+    ensures only { IsOnlyDefined (map string_bytes words.now.items) result (P.seen port.old)
+        (P.seen port.new) }
+    ensures options { HoldsOfRun OptionsChangeNothing (map string_bytes words.now.items) result
+        (P.seen port.old) (P.seen port.new) }
+    ensures agrees { HoldsOfRun AgreesAcrossCommands (map string_bytes words.now.items) result
+        (P.seen port.old) (P.seen port.new) }
+    ensures engine { EngineIsLawful }
 {
-    law_runs_refuse_words_outside_the_table();
-    law_runs_print_accepted();
+    law_runs_are_lawful();
     run(rt, alloc, words, port)
 }
 

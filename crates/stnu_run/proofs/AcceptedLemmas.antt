@@ -50,7 +50,7 @@ use Rattle.check_command.proofs.ReadingLemmas.{run_answers}
 use Rattle.judge_command.specs.JudgeAnswers.{PutsProof, judge_answers, judgement_end, judgement_line, strong_judgement_end, strong_judgement_line}
 use Rattle.judge_command.specs.JudgePromise.{judge_program}
 use Rattle.judge_command.specs.declared.judge_question.Judge.{Judge}
-use Rattle.stnu_run.specs.PrintedCertificates.{BeginsWithPlan, DefinesJust, IsAccepted, judge_of, with_end}
+use Rattle.stnu_run.specs.PrintedCertificates.{BeginsWithOnePlan, BeginsWithPlan, DefinesJust, IsAccepted, judge_of, with_end}
 use Rattle.stnu_run.proofs.ClosedTextLemmas.{IsClosed, closed_printed}
 use Rattle.stnu_run.proofs.JudgedInputLemmas.{both_read, initial_pair, plan_and_rest, plan_declared}
 use Rattle.stnu_run.proofs.ShortLineLemmas.{certificate_lines_short, rule_lines_few}
@@ -58,7 +58,7 @@ use Rattle.stnu_run.proofs.SpelledLemmas.{accepted_spelled}
 use Rattle.stnu_run.proofs.StrongAcceptedLemmas.{closed_strong, strong_lines_short, strong_spelled}
 
 -- an input begins with one plan at most
-pub one_plan : (form : PlanForm) (input plan other : List ℕ) → BeginsWithPlan form input plan → BeginsWithPlan form input other → plan ≡ other
+pub one_plan : BeginsWithOnePlan
 one_plan form input plan other one also =
     let rests = (value_one input_reader (initial_input form) 0 (plan_in form) (input_by form 0) (lines input) one.net also.net one.rest also.rest one.declared also.declared).1 in
     let same : one.text ≡ also.text = append_cancel_right one.text also.text also.rest (ap (λ (rest : List (List ℕ)). one.text ++ rest) (sym rests) ∙ (sym one.divided ∙ also.divided)) in

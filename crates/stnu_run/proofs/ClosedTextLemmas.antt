@@ -14,7 +14,7 @@ use Rattle.stnu_run.specs.PrintedCertificates.{with_end}
 abbrev pub IsClosed : List ℕ → Type 0
 IsClosed bytes = unfinished bytes ≡ []
 
-closed_line : (line : List ℕ) → IsClosed (line ++ 10 ∷ [])
+pub closed_line : (line : List ℕ) → IsClosed (line ++ 10 ∷ [])
 closed_line line = unfinished_is (line ++ 10 ∷ []) ∙ unfinished_after-append [] line (10 ∷ [])
 
 pub closed_both : (one other : List ℕ) → IsClosed one → IsClosed other → IsClosed (one ++ other)

@@ -1,5 +1,5 @@
 -- The certificates that `deadline` puts are accepted by `judge`, each given the plan text of the network with the bound to which it belongs.
-use Rattle.std.proofs.Common.{◌≡◌, ◌↔◌, ◌⊎◌, ℕ, ℤ, pos, ◌-ℤ◌, ◌≤ℤ◌, ◌<ℤ◌, ◌<◌, ◌≤◌, List, [], ◌∷◌, ◌++◌, length, Option, Some, None, Result, Ok, codes, refl, sym, ap, ◌∙◌, subst, arith, IsTrue, inl, inr}
+use Rattle.std.proofs.Common.{◌≡◌, ◌↔◌, ℕ, ℤ, pos, ◌-ℤ◌, ◌≤ℤ◌, ◌<◌, List, [], ◌++◌, length, Option, Some, None, Result, Ok, sym, ap, subst, arith, IsTrue, inl, inr}
 use Rattle.std.proofs.lemmas.Int.{ints}
 use Rattle.std.proofs.lemmas.Bool.{cases_lt}
 use Rattle.texts.specs.Lines.{input_lines}
@@ -22,7 +22,7 @@ use Rattle.cert_checker.specs.declared.judgement.Claim.TheVariants as claim
 use Rattle.cert_checker.specs.declared.judgement.Judgement.TheVariants.{Accepted}
 use Rattle.deadline_search.specs.Answers.{IsAnswerOf}
 use Rattle.deadline_search.specs.Deadlines.{IsFull, highest, lowest}
-use Rattle.deadline_search.specs.Goals.{IsGoalName, goal_name, with_goal}
+use Rattle.deadline_search.specs.Goals.{IsGoalName, with_goal}
 use Rattle.deadline_search.specs.Trials.{IsGoalFor}
 use Rattle.deadline_search.specs.declared.answer.Deadline.{Deadline}
 use Rattle.deadline_search.specs.declared.answer.Deadline.TheVariants.{NotControllable, Never, Least, Floor}
@@ -37,7 +37,6 @@ use Rattle.input_texts.specs.declared.proof_input.ProofKind.TheVariants.{Control
 use Rattle.input_texts.proofs.PlanInputLemmas.{input_sound}
 use Rattle.command_contracts.specs.Programs.{Defines, Program, PromiseHolds}
 use Rattle.command_contracts.specs.Requests.{program_of_request, requested_by}
-use Rattle.command_contracts.specs.declared.status.Status.{Status}
 use Rattle.judge_command.specs.JudgeAnswers.{judge_request, judge_syntax, judgement_line}
 use Rattle.judge_command.specs.JudgePromise.{judge_program}
 use Rattle.judge_command.specs.Words.{SayJudge}
@@ -47,12 +46,13 @@ use Rattle.deadline_command.specs.DeadlinePromise.{deadline_program}
 use Rattle.deadline_command.specs.Points.{PlanPoints, points_by, points_in}
 use Rattle.deadline_command.specs.Words.{SayDeadline}
 use Rattle.deadline_command.specs.declared.points.DeadlineWords.{DeadlineWords}
-use Rattle.stnu_run.specs.DefinedRuns.{program_of}
+use Rattle.stnu_run.specs.DefinedRuns.{DefinedRun}
+use Rattle.stnu_run.specs.RunClaims.{HoldsOfDefinedRuns}
 use Rattle.stnu_run.specs.PrintedCertificates.{judge_of}
 use Rattle.stnu_run.specs.SessionCertificates.{IsAcceptedAs}
-use Rattle.stnu_run.specs.DeadlineCertificates.{AreAccepted, DeadlinesAreAccepted, PutsAcceptedDeadline, with_goal_between}
+use Rattle.stnu_run.specs.DeadlineCertificates.{AreAccepted, DeadlinePutsAccepted, PutsAcceptedDeadline, with_goal_between}
 use Rattle.stnu_run.proofs.PrintedPlanLemmas.{accepted_after_plan}
-use Rattle.stnu_run.proofs.SessionProofLemmas.{declared_numbers}
+use Rattle.stnu_run.proofs.PlanNumberLemmas.{declared_numbers}
 
 abbrev judging : Program
 judging = judge_program (judge_of (in_notation Text) Control)
@@ -85,7 +85,7 @@ module _ (net : Plan) (plan : IsPlan net) (numbers : HasPlanNumbers net) (from t
         (law_edits_keep_sound net (AddBound name (point_name net.points from) (point_name net.points to) most) (with_goal net (record { name = name; from = from; to = to }) most) added).sound plan
         (is_named, plan.points_named from.0 [] from_inside, plan.points_named to.0 [] to_inside)
 
-    goal_numbers : HasPlanNumbers (with_goal net (record { name = name; from = from; to = to }) most)
+    pub goal_numbers : HasPlanNumbers (with_goal net (record { name = name; from = from; to = to }) most)
     goal_numbers =
         (law_edits_keep_sound net (AddBound name (point_name net.points from) (point_name net.points to) most) (with_goal net (record { name = name; from = from; to = to }) most) added).numbers numbers
 
@@ -150,9 +150,9 @@ puts_by said input put query within roomy number end (inr full) = absurd (roomy 
 pub deadlines_are_accepted : ((said : DeadlineWords) → PromiseHolds (deadline_program said))
     → ((words : List (List ℕ)) (said : DeadlineWords) → requested_by deadline_syntax deadline_request words ≡ Some said ↔ SayDeadline deadline_syntax said words)
     → ((words : List (List ℕ)) (judge : Judge) → requested_by judge_syntax judge_request words ≡ Some judge ↔ SayJudge judge_syntax judge words)
-    → DeadlinesAreAccepted
-deadlines_are_accepted keeps deadline_words judge_words program other asked judged said say judges input put status defines query within roomy =
-    let (end, is, runs) = subst (λ (one : Program). Defines one input put status) (ap (program_of_request deadline_program) ((deadline_words asked said).1 say)) defines in
+    → HoldsOfDefinedRuns DeadlinePutsAccepted
+deadlines_are_accepted keeps deadline_words judge_words words input put status defines program other asked judged said same say judges query within roomy =
+    let (end, is, runs) = subst (λ (one : Program). Defines one input put status) (ap (program_of_request deadline_program) ((deadline_words asked said).1 say)) (subst (λ (ws : List (List ℕ)). DefinedRun ws input put status) same defines) in
     let answered = (keeps said input put end runs).answers.declared query within in
     subst (λ (one : Program). PutsAcceptedDeadline one said query put) (sym (ap (program_of_request judge_program) ((judge_words judged (judge_of (in_notation Text) Control)).1 judges)))
     (puts_by said input put query within roomy (length within.used) end answered)

@@ -1,6 +1,5 @@
 -- What the words of `check` and `strong` put as a certificate is accepted by the words of `judge`.
 use Rattle.std.proofs.Common.{◌≡◌, ◌↔◌, ℕ, List, ◌∷◌, Some, codes, sym, ap, subst}
-use Rattle.plan_port.proofs.Talks.{WhereShown-so}
 use Rattle.input_texts.specs.declared.plan_input.PlanForm.{PlanForm}
 use Rattle.input_texts.specs.declared.proof_input.ProofKind.{ProofKind}
 use Rattle.input_texts.specs.declared.proof_input.ProofKind.TheVariants.{Control, Strong}
@@ -18,8 +17,8 @@ use Rattle.judge_command.specs.declared.judge_question.Judge.{Judge}
 use Rattle.strong_command.specs.StrongAnswers.{SayStrong, strong_program, strong_request, strong_syntax}
 use Rattle.strong_command.specs.declared.strong_question.StrongQuestion.{StrongQuestion}
 use Rattle.stnu_run.specs.DefinedRuns.{DefinedRun, program_of, strong_word}
-use Rattle.stnu_run.specs.PrintedCertificates.{CheckPutsAccepted, IsAccepted, PrintedMeansAccepted, RunsPrintAccepted, StrongPutsAccepted, accepted_proof, accepted_refutation, accepted_strong, judge_of}
-use Rattle.stnu_run.proofs.AcceptedLemmas.{one_plan}
+use Rattle.stnu_run.specs.RunClaims.{HoldsOfDefinedRuns}
+use Rattle.stnu_run.specs.PrintedCertificates.{CheckPutsAccepted, IsAccepted, PrintsAccepted, StrongPutsAccepted, accepted_proof, accepted_refutation, accepted_strong, judge_of}
 use Rattle.stnu_run.proofs.CheckedLemmas.{proof_accepted, refutation_accepted}
 use Rattle.stnu_run.proofs.StrongPrintedLemmas.{strong_accepted}
 
@@ -52,19 +51,10 @@ module _ (check_words : (words : List (List ℕ)) (flags : CheckFlags) → reque
       judged_by_words query.form Strong other judged judges input certificate accepted_strong
       (strong_accepted query input certificate status (subst (λ (bytes : List ℕ). Defines (strong_program query) input bytes status) same so))
 
-  pub printed_means_accepted : PrintedMeansAccepted
-  printed_means_accepted = record {
-    one = one_plan;
-    defined = λ words input put status defines. record {
-      check = λ program other asked judged flags same say judges.
-          check_accepted program other asked judged flags say judges input put status (subst (λ (ws : List (List ℕ)). DefinedRun ws input put status) same defines);
-      strong = λ program other asked judged query same say judges.
-          strong_puts program other asked judged query say judges input put status (subst (λ (ws : List (List ℕ)). DefinedRun ws input put status) same defines);
-    };
+  pub prints_accepted : HoldsOfDefinedRuns PrintsAccepted
+  prints_accepted words input put status defines = record {
+    check = λ program other asked judged flags same say judges.
+        check_accepted program other asked judged flags say judges input put status (subst (λ (ws : List (List ℕ)). DefinedRun ws input put status) same defines);
+    strong = λ program other asked judged query same say judges.
+        strong_puts program other asked judged query say judges input put status (subst (λ (ws : List (List ℕ)). DefinedRun ws input put status) same defines);
   }
-
--- over a port
-pub runs_print_accepted : PrintedMeansAccepted → RunsPrintAccepted
-runs_print_accepted law words status before after caused =
-    WhereShown-so before.talk after.talk _ _ (λ was is inner.
-    WhereShown-so before.left after.left _ _ (λ input untaken has put all no_take no_put memory. law.defined words input put status (has put all no_take no_put memory).defined) inner) caused.input

@@ -39,7 +39,7 @@ use Rattle.judge_command.specs.JudgeAnswers.{judgement_line}
 use Rattle.judge_command.specs.JudgePromise.{judge_program}
 use Rattle.stnu_run.specs.PrintedCertificates.{DefinesJust, judge_of, with_end}
 use Rattle.stnu_run.proofs.AcceptedLemmas.{accepts_it}
-use Rattle.stnu_run.proofs.ClosedTextLemmas.{IsClosed, closed_printed, input_lines_whole, text_restored, texts_whole, total_is, total_size}
+use Rattle.stnu_run.proofs.ClosedTextLemmas.{IsClosed, closed_printed, input_lines_whole, text_restored, texts_whole, total_is}
 use Rattle.stnu_run.proofs.ComingLemmas.{come_by, come_text}
 use Rattle.stnu_run.proofs.ShortLineLemmas.{AreShort, IsShortLine, both, lines_short, short_each, short_end, short_name, short_number, short_weight}
 
@@ -123,10 +123,10 @@ module _ (net : Plan) (plan : IsPlan net) (numbers : HasPlanNumbers net) where
   plan_declared : (plan_texts 0).declares (lines (printed_plan net)) net []
   plan_declared = (declares_network 0 (lines (printed_plan net)) net []).1 (declares_back net plan numbers)
 
-  abbrev used : List InputLine
+  abbrev pub used : List InputLine
   used = map whole_line (lines (printed_plan net))
 
-  plan_divided : input_lines (printed_plan net) ≡ used ++ []
+  pub plan_divided : input_lines (printed_plan net) ≡ used ++ []
   plan_divided = input_lines_whole (printed_plan net) closed_plan ∙ sym (append-nil used)
 
   plan_comes : length (printed_plan net) ≤ most_input → ComeAfter (plan_in (in_notation Text)) [] most_input used
@@ -137,7 +137,7 @@ module _ (net : Plan) (plan : IsPlan net) (numbers : HasPlanNumbers net) where
       let all : text ≡ lines (printed_plan net) = sym (split ∙ append-nil text) in
       come_by (plan_texts 0) (plan_in (in_notation Text)) (λ seen longest wanted. wanted) used [] most_input (subst (λ (ls : List (List ℕ)). ComeAfter (plan_texts 0) [] most_input (map whole_line ls)) all come)
 
-  plan_declares : length (printed_plan net) ≤ most_input → DeclaresBy (plan_in (in_notation Text)) used [] net
+  pub plan_declares : length (printed_plan net) ≤ most_input → DeclaresBy (plan_in (in_notation Text)) used [] net
   plan_declares fits =
       let all : lines (printed_plan net) ≡ texts (used ++ []) = sym (ap (λ (ls : List InputLine). texts ls) (append-nil used) ∙ texts_whole (lines (printed_plan net))) in
       record {

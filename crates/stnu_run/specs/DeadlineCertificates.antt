@@ -13,14 +13,14 @@ use Rattle.input_texts.specs.PlanInput.{in_notation}
 use Rattle.input_texts.specs.declared.plan_input.Notation.TheVariants.{Text}
 use Rattle.input_texts.specs.declared.proof_input.ProofKind.TheVariants.{Control}
 use Rattle.command_contracts.specs.Programs.{Program}
-use Rattle.command_contracts.specs.declared.status.Status.{Status}
 use Rattle.judge_command.specs.JudgeAnswers.{judge_syntax}
 use Rattle.judge_command.specs.Words.{SayJudge}
 use Rattle.deadline_command.specs.DeadlineAnswers.{deadline_syntax, deadline_text}
 use Rattle.deadline_command.specs.Points.{PlanPoints, points_in}
 use Rattle.deadline_command.specs.Words.{SayDeadline}
 use Rattle.deadline_command.specs.declared.points.DeadlineWords.{DeadlineWords}
-use Rattle.stnu_run.specs.DefinedRuns.{DefinedRun, program_of}
+use Rattle.stnu_run.specs.DefinedRuns.{program_of}
+use Rattle.stnu_run.specs.RunClaims.{RunClaim}
 use Rattle.stnu_run.specs.PrintedCertificates.{accepted_proof, accepted_refutation, judge_of}
 use Rattle.stnu_run.specs.SessionCertificates.{IsAcceptedAs}
 
@@ -47,12 +47,11 @@ pub record PutsAcceptedDeadline (judging : Program) (said : DeadlineWords) (quer
   pub text : put ≡ deadline_text said deadline
   pub accepted : AreAccepted judging query deadline
 
--- what the defined run of `deadline` puts for an input that declares a network with both points, and with capacity for one bound more, has certificates that
--- `judge` accepts, whatever words request that of it for a plan text
-abbrev pub DeadlinesAreAccepted : Type 0
-DeadlinesAreAccepted =
-    (program other : List ℕ) (asked judged : List (List ℕ)) (said : DeadlineWords) → SayDeadline deadline_syntax said asked
-    → SayJudge judge_syntax (judge_of (in_notation Text) Control) judged
-    → (input put : List ℕ) (status : Status) → DefinedRun (program ∷ codes "deadline" ∷ asked) input put status
+-- what words of `deadline` put for an input that declares a network with both points, and with capacity for one bound more, has certificates that `judge`
+-- accepts, whatever words request that of it for a plan text
+abbrev pub DeadlinePutsAccepted : RunClaim
+DeadlinePutsAccepted words input put status =
+    (program other : List ℕ) (asked judged : List (List ℕ)) (said : DeadlineWords) → words ≡ program ∷ codes "deadline" ∷ asked
+    → SayDeadline deadline_syntax said asked → SayJudge judge_syntax (judge_of (in_notation Text) Control) judged
     → (query : PlanPoints) → DeclaresWithinLimits (points_in said) (input_lines input) query → ¬ IsFull query.net
     → PutsAcceptedDeadline (program_of (other ∷ codes "judge" ∷ judged)) said query put

@@ -1,8 +1,14 @@
 pub mod DefinedRuns
 pub mod WordLaws
 pub mod Table
+pub mod RunClaims
 pub mod PrintedCertificates
 pub mod SessionCertificates
 pub mod DeadlineCertificates
 pub mod RelaxedPlans
 pub mod RelaxedDeadlines
+pub mod ShownPlans
+pub mod PlayedDays
+pub mod AcrossCommands
+pub mod RunLaws
+pub mod EngineLaws

@@ -4,16 +4,13 @@ use Rattle.std.specs.List.{flat_map}
 use Rattle.texts.specs.Lines.{lines}
 use Rattle.texts.specs.PrintedLines.{printed_line}
 use Rattle.net_model.specs.Network.{Plan}
-use Rattle.plan_port.specs.Talk.{Seen}
 use Rattle.command_engine.specs.Limits.{most_input}
-use Rattle.command_engine.specs.Serves.{WhereBothShown}
 use Rattle.common_answers.specs.VerdictLines.{controllable_line, refuted_line}
 use Rattle.input_texts.specs.PlanInput.{plan_in}
 use Rattle.input_texts.specs.declared.plan_input.PlanForm.{PlanForm}
 use Rattle.input_texts.specs.declared.proof_input.ProofKind.{ProofKind}
 use Rattle.input_texts.specs.declared.proof_input.ProofKind.TheVariants.{Control, Strong}
 use Rattle.command_contracts.specs.Programs.{Defines, Program}
-use Rattle.command_contracts.specs.Statuses.{StatusHasCause}
 use Rattle.command_contracts.specs.declared.status.Status.{Status}
 use Rattle.check_command.specs.CheckAnswers.{check_syntax}
 use Rattle.check_command.specs.Words.{SayCheckFlags}
@@ -23,7 +20,7 @@ use Rattle.judge_command.specs.Words.{SayJudge}
 use Rattle.judge_command.specs.declared.judge_question.Judge.{Judge}
 use Rattle.strong_command.specs.StrongAnswers.{SayStrong, not_strong_line}
 use Rattle.strong_command.specs.declared.strong_question.StrongQuestion.{StrongQuestion}
-use Rattle.stnu_run.specs.DefinedRuns.{DefinedRun, program_of, strong_word}
+use Rattle.stnu_run.specs.DefinedRuns.{program_of, strong_word}
 
 -- a line with its end
 abbrev pub with_end : List ℕ → List ℕ
@@ -79,7 +76,7 @@ StrongPutsAccepted query judging input put =
 
 -- If the words are those of `check`, or of `strong`, what is put as a certificate is accepted by `judge`, whatever words request that of it for a plan of the
 -- same form.
-pub record PrintsAccepted (words : List (List ℕ)) (input put : List ℕ) : Type 0 where
+pub record PrintsAccepted (words : List (List ℕ)) (input put : List ℕ) (status : Status) : Type 0 where
   pub check : (program other : List ℕ) (asked judged : List (List ℕ)) (flags : CheckFlags) → words ≡ program ∷ codes "check" ∷ asked
       → SayCheckFlags check_syntax flags asked → SayJudge judge_syntax (judge_of flags.form Control) judged
       → CheckPutsAccepted flags (program_of (other ∷ codes "judge" ∷ judged)) input put
@@ -87,18 +84,6 @@ pub record PrintsAccepted (words : List (List ℕ)) (input put : List ℕ) : Typ
       → SayStrong query asked → SayJudge judge_syntax (judge_of query.form Strong) judged
       → StrongPutsAccepted query (program_of (other ∷ codes "judge" ∷ judged)) input put
 
--- Printed means accepted. `one`: an input begins with one plan at most. `defined`: what a defined run puts as a certificate is accepted.
-pub record PrintedMeansAccepted : Type 0 where
-  pub one : (form : PlanForm) (input plan other : List ℕ) → BeginsWithPlan form input plan → BeginsWithPlan form input other → plan ≡ other
-  pub defined : (words : List (List ℕ)) (input put : List ℕ) (status : Status) → DefinedRun words input put status → PrintsAccepted words input put
-
--- Over a port that shows its bytes, what was put as a certificate by a run in which no call failed, and for which there was memory, is accepted.
-abbrev pub RunPrintsAccepted : (words : List (List ℕ)) → Status → (before after : Seen) → Type 0
-RunPrintsAccepted words status before after =
-    WhereBothShown before after (λ was is input untaken. (put : List ℕ) → is.put ≡ was.put ++ put
-    → ¬ (status.0 ≡ 5) → ¬ (status.0 ≡ 6) → ¬ (status.0 ≡ 8) → PrintsAccepted words input put)
-
-abbrev pub RunsPrintAccepted : Type 0
-RunsPrintAccepted =
-    (words : List (List ℕ)) (status : Status) (before after : Seen) → StatusHasCause (program_of words) status before after
-    → RunPrintsAccepted words status before after
+-- an input begins with one plan at most
+abbrev pub BeginsWithOnePlan : Type 0
+BeginsWithOnePlan = (form : PlanForm) (input plan other : List ℕ) → BeginsWithPlan form input plan → BeginsWithPlan form input other → plan ≡ other

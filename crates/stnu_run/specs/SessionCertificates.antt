@@ -12,12 +12,12 @@ use Rattle.input_texts.specs.declared.plan_input.PlanForm.{PlanForm}
 use Rattle.input_texts.specs.declared.proof_input.ProofKind.TheVariants.{Control}
 use Rattle.command_contracts.specs.PlanWords.{SayFormAndWorkers}
 use Rattle.command_contracts.specs.Programs.{Program}
-use Rattle.command_contracts.specs.declared.status.Status.{Status}
 use Rattle.judge_command.specs.JudgeAnswers.{judge_syntax}
 use Rattle.judge_command.specs.Words.{SayJudge}
 use Rattle.session_command.specs.SessionPromise.{IsNext, SaysAll}
 use Rattle.session_command.specs.Sessions.{session_syntax}
-use Rattle.stnu_run.specs.DefinedRuns.{DefinedRun, program_of}
+use Rattle.stnu_run.specs.DefinedRuns.{program_of}
+use Rattle.stnu_run.specs.RunClaims.{RunClaim}
 use Rattle.stnu_run.specs.PrintedCertificates.{DefinesJust, accepted_proof, accepted_refutation, judge_of}
 
 -- A certificate of a network is what a program accepts by this line, given the plan text of the network before it: it puts just that line, with status 0, if
@@ -40,11 +40,10 @@ pub record PutsAcceptedProof (judging : Program) (first net : Plan) (steps : Lis
   pub all : put ≡ before ++ (certificate ++ more)
   pub accepted : IsAcceptedOf judging net certificate
 
--- what the defined run of `session` puts for each line `proof` is accepted by `judge`, whatever words request that of it for a plan text
-abbrev pub SessionProofsAreAccepted : Type 0
-SessionProofsAreAccepted =
-    (program other : List ℕ) (asked judged : List (List ℕ)) (form : PlanForm) → SayFormAndWorkers session_syntax form asked
-    → SayJudge judge_syntax (judge_of (in_notation Text) Control) judged
-    → (input put : List ℕ) (status : Status) → DefinedRun (program ∷ codes "session" ∷ asked) input put status
+-- what words of `session` put for each line `proof` is accepted by `judge`, whatever words request that of it for a plan text
+abbrev pub SessionPutsAccepted : RunClaim
+SessionPutsAccepted words input put status =
+    (program other : List ℕ) (asked judged : List (List ℕ)) (form : PlanForm) → words ≡ program ∷ codes "session" ∷ asked
+    → SayFormAndWorkers session_syntax form asked → SayJudge judge_syntax (judge_of (in_notation Text) Control) judged
     → (first net : Plan) (steps : List Step) → IsNext form (input_lines input) first net steps step.Proof
     → PutsAcceptedProof (program_of (other ∷ codes "judge" ∷ judged)) first net steps put

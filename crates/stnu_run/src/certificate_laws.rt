@@ -1,9 +1,10 @@
 //! Laws about printed certificates: `judge` accepts them. Each is the contract of a function
 //! without parameters.
 
-ghost use Rattle.stnu_run.specs.DeadlineCertificates.{DeadlinesAreAccepted};
-ghost use Rattle.stnu_run.specs.PrintedCertificates.{PrintedMeansAccepted, RunsPrintAccepted};
-ghost use Rattle.stnu_run.specs.SessionCertificates.{SessionProofsAreAccepted};
+ghost use Rattle.stnu_run.specs.DeadlineCertificates.{DeadlinePutsAccepted};
+ghost use Rattle.stnu_run.specs.PrintedCertificates.{BeginsWithOnePlan, PrintsAccepted};
+ghost use Rattle.stnu_run.specs.RunClaims.{HoldsOfDefinedRuns};
+ghost use Rattle.stnu_run.specs.SessionCertificates.{SessionPutsAccepted};
 
 use check_command::law_check_is_read_exactly;
 use command_contracts::Specified;
@@ -19,25 +20,18 @@ use strong_command::law_strong_is_read_exactly;
 /// `accepted not strongly controllable`. The plan may be of either form, and of `check` have a
 /// delay of its own or one that both are asked to take. An input begins with one plan at most.
 pub fn law_printed_means_accepted()
-    ensures { PrintedMeansAccepted }
+    ensures one { BeginsWithOnePlan }
+    ensures defined { HoldsOfDefinedRuns PrintsAccepted }
 {
     law_check_is_read_exactly();
     law_strong_is_read_exactly();
     law_judge_is_read_exactly();
 }
 
-/// What a run, whose status has its cause, put as a certificate is accepted so, unless a call
-/// failed or there was no memory.
-pub fn law_runs_print_accepted()
-    ensures { RunsPrintAccepted }
-{
-    law_printed_means_accepted();
-}
-
 /// What the defined run of `session` puts for a line `proof` is accepted by `judge`, given the plan
 /// text of the network as it stands then: that which `plan` prints.
 pub fn law_session_proofs_are_accepted()
-    ensures { SessionProofsAreAccepted }
+    ensures { HoldsOfDefinedRuns SessionPutsAccepted }
 {
     SessionCommand::keeps_its_promise();
     law_session_is_read_exactly();
@@ -47,7 +41,7 @@ pub fn law_session_proofs_are_accepted()
 /// Each certificate that the defined run of `deadline` puts is accepted by `judge`, given the plan
 /// text of the network with the bound to which it belongs as its last.
 pub fn law_deadlines_are_accepted()
-    ensures { DeadlinesAreAccepted }
+    ensures { HoldsOfDefinedRuns DeadlinePutsAccepted }
 {
     DeadlineQuestion::keeps_its_promise();
     law_deadline_is_read_exactly();

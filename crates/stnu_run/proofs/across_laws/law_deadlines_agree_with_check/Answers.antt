@@ -1,0 +1,5 @@
+use Rattle.stnu_run.proofs.DeadlineVerdictLemmas.{deadlines_agree_with_check}
+use Rattle.stnu_run.proofs.across_laws.law_deadlines_agree_with_check.Goals as goal
+
+pub returns : goal.returns
+returns c = deadlines_agree_with_check c.keeps_its_promise.ensures c.law_deadline_is_read_exactly.ensures c.law_check_is_read_exactly.ensures
