@@ -27,11 +27,13 @@ use Rattle.multiplexed_commands.specs.Starts.{Start, starting_members, starts_pu
 use Rattle.fleet_command.specs.FleetCauses.{HasLineFault, IsClosedInput, IsLineFault, IsServed, NameAll, fleet_causes, names_of, number_then, capacity_then}
 use Rattle.fleet_command.specs.FleetCommand.{BeginEach, fleet_begins, fleet_machine, fleet_start, plans_machine}
 use Rattle.fleet_command.specs.FleetHeader.{Nothing}
-use Rattle.fleet_command.specs.FleetPromise.{EachAlone, FleetPromise, OpensFleet}
+use Rattle.fleet_command.specs.FleetPromise.{AreAnswered, FleetPromise, OpensFleet}
 use Rattle.fleet_command.specs.FleetText.{Plans, initial_fleet, fleet_in, fleet_reader}
+use Rattle.fleet_command.specs.PlanNames.{AreNamed}
 use Rattle.fleet_command.specs.declared.fleet_question.FleetQuestion.{FleetQuestion}
 use Rattle.fleet_command.proofs.AloneLemmas.{each_alone}
 use Rattle.fleet_command.proofs.LineLemmas.{EndsFleet, HowEnds, at_end, by_fault, Members, OverLines, closed_so, ends_fleet, fault_so, names_in, over_lines}
+use Rattle.fleet_command.proofs.PutNameLemmas.{put_of_names}
 use Rattle.fleet_command.proofs.TextLemmas.{declared_names, fleet_by}
 
 -- what the reading of the text of an input comes to
@@ -111,22 +113,27 @@ module _ (laws : ExecutionLaws) (query : FleetQuestion) where
           over_lines served.lines served.rest first starts_at.more end served.come
           (subst (λ (names : List (List ℕ)). NameAll names (texts served.lines)) (sym names_first) served.named) starts_at.later
 
-      alone_so : EachAlone plans served.lines (starts_put starts_at.starts ++ over.said)
-      alone_so =
-          each_alone laws plans starts_at.starts (length served.used) (capacity_after most_input served.used) served.lines over.said over.there starts_at.each
-          (declared_names (texts (served.used ++ (served.lines ++ served.rest))) served.text plans (texts (served.lines ++ served.rest)) served.declares.declared)
-          (capacity_less served.used most_input) over.answers
+      names_declared : AreNamed plans
+      names_declared = declared_names (texts (served.used ++ (served.lines ++ served.rest))) served.text plans (texts (served.lines ++ served.rest)) served.declares.declared
+
+      answered_so : AreAnswered plans served.lines (starts_put starts_at.starts ++ over.said)
+      answered_so = record {
+        alone =
+            each_alone laws plans starts_at.starts (length served.used) (capacity_after most_input served.used) served.lines over.said over.there starts_at.each names_declared
+            (capacity_less served.used most_input) over.answers;
+        named = put_of_names plans starts_at.starts first served.lines over.said over.there starts_at.each names_declared names_first over.answers;
+      }
 
       all_so : put ≡ (starts_put starts_at.starts ++ over.said) ++ over.more
       all_so = starts_at.all ∙ (ap (λ (m : List ℕ). starts_put starts_at.starts ++ m) over.all ∙ sym (append_assoc (starts_put starts_at.starts) over.said over.more))
 
-      alone_by : (said : List ℕ) × (more : List ℕ) × EachAlone plans served.lines said × (put ≡ said ++ more)
-      alone_by = (starts_put starts_at.starts ++ over.said, over.more, alone_so, all_so)
+      alone_by : (said : List ℕ) × (more : List ℕ) × AreAnswered plans served.lines said × (put ≡ said ++ more)
+      alone_by = (starts_put starts_at.starts ++ over.said, over.more, answered_so, all_so)
 
       names_there : names_in over.there.state ≡ names_of plans
       names_there = over.names ∙ names_first
 
-    closes_by : (closed : IsClosedInput (input_lines input)) → EachAlone closed.plans closed.served.lines put × (end ≡ ends.Done)
+    closes_by : (closed : IsClosedInput (input_lines input)) → AreAnswered closed.plans closed.served.lines put × (end ≡ ends.Done)
     closes_by closed =
         let plans = closed.plans in
         let served = closed.served in
@@ -136,7 +143,7 @@ module _ (laws : ExecutionLaws) (query : FleetQuestion) where
         let ended = closed_so one.there closed.last closed.others one.more end comes closed.ends run in
         let whole : put ≡ starts_put (starts_at plans served).starts ++ one.said =
         all_so plans served ∙ (ap (λ (m : List ℕ). (starts_put (starts_at plans served).starts ++ one.said) ++ m) ended.0 ∙ append-nil (starts_put (starts_at plans served).starts ++ one.said)) in
-        (subst (EachAlone plans served.lines) (sym whole) (alone_so plans served), ended.1)
+        (subst (AreAnswered plans served.lines) (sym whole) (answered_so plans served), ended.1)
 
     faulty_by : (fault : Fault) → HasLineFault (input_lines input) fault → PutsLast (fault_line fault) put × (end ≡ fault_end fault)
     faulty_by fault has =

@@ -13,6 +13,7 @@ mod FleetPhaseLemmas
 mod TextLemmas
 mod LineLemmas
 mod AloneLemmas
+mod PutNameLemmas
 mod FleetLemmas
 mod OnceLemmas
 mod WordLemmas

@@ -46,7 +46,7 @@ names_set (one ∷ members) zero old new is same =
     ap (λ (name : List ℕ). name ∷ names_in members) (same ∙ sym (ap (λ (m : Member EventRun). m.name) first))
 names_set (one ∷ members) (suc place) old new is same = ap (λ (names : List (List ℕ)). one.name ∷ names) (names_set members place old new is same)
 
-is_one : (members : Members) (place : ℕ) (member : Member EventRun) (name : List ℕ) → slice_get members place ≡ Some member → member.name ≡ name → IsOne (names_in members) name
+pub is_one : (members : Members) (place : ℕ) (member : Member EventRun) (name : List ℕ) → slice_get members place ≡ Some member → member.name ≡ name → IsOne (names_in members) name
 is_one members place member name here is =
     (place, slice_get-map (λ (m : Member EventRun). m.name) members place ∙ (ap (option_map (λ (m : Member EventRun). m.name)) here ∙ ap (λ (n : List ℕ). Some n) is))
 

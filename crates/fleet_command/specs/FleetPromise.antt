@@ -1,7 +1,9 @@
 -- What `fleet` promises: of each plan what `run` promises of that plan and its own lines alone.
 use Rattle.std.specs.Prelude.{◌≡◌, ◌⊎◌, ℕ, ◌+◌, List, [], ◌∷◌, ◌++◌, Some, length, slice_get}
-use Rattle.texts.specs.Lines.{InputLine, input_lines}
+use Rattle.std.specs.List.{All}
+use Rattle.texts.specs.Lines.{InputLine, input_lines, whole_lines}
 use Rattle.texts.specs.PrintedLines.{printed_line}
+use Rattle.texts.specs.Words.{words}
 use Rattle.net_model.specs.Network.{Plan}
 use Rattle.net_model.specs.ShownForm.{shown_form}
 use Rattle.net_model.specs.declared.format.FormatKind.TheVariants.{NoEnd}
@@ -13,7 +15,7 @@ use Rattle.command_engine.specs.Readers.{Given}
 use Rattle.command_engine.specs.declared.endings.End.{End}
 use Rattle.command_engine.specs.declared.endings.End.TheVariants as ends
 use Rattle.multiplexed_commands.specs.Starts.{Start, starts_put}
-use Rattle.multiplexed_commands.specs.NamedLines.{named, of_name}
+use Rattle.multiplexed_commands.specs.NamedLines.{named, of_name, IsOfWholeLines}
 use Rattle.multiplexed_commands.specs.Projection.{own_lines}
 use Rattle.multiplexed_commands.specs.Runs.{as_input, idles}
 use Rattle.event_phase.specs.EventRuns.{EventRun}
@@ -29,7 +31,7 @@ use Rattle.command_contracts.specs.Programs.{Program, or_nothing, serves}
 use Rattle.input_texts.specs.PlanInput.{in_notation, input_reader}
 use Rattle.input_texts.specs.declared.plan_input.Notation.TheVariants.{Text}
 use Rattle.run_command.specs.RunCommand.{run_begins, without_feeders}
-use Rattle.fleet_command.specs.FleetCauses.{HasLineFault, IsClosedInput, IsServed, fleet_causes}
+use Rattle.fleet_command.specs.FleetCauses.{HasLineFault, IsClosedInput, IsOne, IsServed, fleet_causes, names_of}
 use Rattle.fleet_command.specs.FleetCommand.{BeginEach, fleet_machine, fleet_start, refusal_words}
 use Rattle.fleet_command.specs.FleetHeader.{Nothing}
 use Rattle.fleet_command.specs.FleetText.{Plans, fleet_in}
@@ -88,20 +90,38 @@ EachAlone plans lines put =
     (place : ℕ) (name : List ℕ) (plan_or_refusal : PlanOrRefusal) → slice_get plans place ≡ Some (name, plan_or_refusal)
     → (said : List ℕ) × (of_name name put ≡ named name said) × IsAlone plan_or_refusal (own_lines name lines) said
 
+-- ---- all lines
+-- the first word of a line is one of these names
+pub record BeginsWithOne (names : List (List ℕ)) (line : List ℕ) : Type 0 where
+  pub name : List ℕ
+  pub others : List (List ℕ)
+  pub spelled : words line ≡ name ∷ others
+  pub one : IsOne names name
+
+-- whole lines, each of which begins with one of these names
+pub record AreOfNames (names : List (List ℕ)) (put : List ℕ) : Type 0 where
+  pub whole : IsOfWholeLines put
+  pub each : All (BeginsWithOne names) (whole_lines put)
+
+-- What was put for plans and lines after `go`: what each plan is answered alone, and no line that begins with no plan's name.
+pub record AreAnswered (plans : Plans) (lines : List InputLine) (put : List ℕ) : Type 0 where
+  pub alone : EachAlone plans lines put
+  pub named : AreOfNames (names_of plans) put
+
 -- ---- the promise
 -- what is put of the plans at `go`, in their order, stands before all else
 abbrev pub OpensFleet : Nothing × Plans → List ℕ → End → Type 0
 OpensFleet text put end = (starts : List (Start EventRun)) × (more : List ℕ) × BeginEach text.1 starts × (put ≡ starts_put starts ++ more)
 
 -- What `fleet` promises. `opens`: it puts how the plans begin that the input declares, or the first refusal of the input. `alone`: after any number of lines
--- each plan was answered as it is alone, whatever comes after. `closes`: at `end` it ends as done, and has put no more than that. `faulty`: it ends by a fault,
--- with its line, if its lines have one. `completes`: only at `end` does it end as done. `faults`: only if the input has a first refusal, or its lines a fault,
--- does it end by one. `never`: in no other way does it end.
+-- each plan was answered as it is alone, and no line was put that begins with no plan's name, whatever comes after. `closes`: at `end` it ends as done, and has
+-- put no more than that. `faulty`: it ends by a fault, with its line, if its lines have one. `completes`: only at `end` does it end as done. `faults`: only if
+-- the input has a first refusal, or its lines a fault, does it end by one. `never`: in no other way does it end.
 pub record FleetPromise (input put : List ℕ) (end : End) : Type 0 where
   pub opens : AnswersText fleet_in refusing OpensFleet input put end
   pub alone : (plans : Plans) (served : IsServed (input_lines input) plans)
-      → (said : List ℕ) × (more : List ℕ) × EachAlone plans served.lines said × (put ≡ said ++ more)
-  pub closes : (closed : IsClosedInput (input_lines input)) → EachAlone closed.plans closed.served.lines put × (end ≡ ends.Done)
+      → (said : List ℕ) × (more : List ℕ) × AreAnswered plans served.lines said × (put ≡ said ++ more)
+  pub closes : (closed : IsClosedInput (input_lines input)) → AreAnswered closed.plans closed.served.lines put × (end ≡ ends.Done)
   pub faulty : (fault : Fault) → HasLineFault (input_lines input) fault → PutsLast (fault_line fault) put × (end ≡ fault_end fault)
   pub completes : end ≡ ends.Done → IsClosedInput (input_lines input)
   pub faults : (end ≡ ends.Fault) ⊎ (end ≡ ends.Limit)

@@ -108,7 +108,7 @@ is_no_other name other line naming is = ap (comes_first other) (words_named name
 abbrev pub lines_named : List ℕ → List (List ℕ) → List ℕ
 lines_named name lines = flat_map (λ line. ended_line (after_name name line)) lines
 
-whole_named : (name : List ℕ) (lines : List (List ℕ)) → IsNaming name → AllByRecursion HasNoEnd lines → whole_lines (lines_named name lines) ≡ map (after_name name) lines
+pub whole_named : (name : List ℕ) (lines : List (List ℕ)) → IsNaming name → AllByRecursion HasNoEnd lines → whole_lines (lines_named name lines) ≡ map (after_name name) lines
 whole_named name [] naming none = whole_lines_is []
 whole_named name (line ∷ lines) naming none =
     whole-closed (after_name name line) (lines_named name lines) (plain_no_end name line naming.plain none.0)
@@ -164,7 +164,7 @@ pub named_none : (name : List ℕ) → named name [] ≡ []
 named_none name = ap (flat_map (λ (line : List ℕ). ended_line (after_name name line))) (whole_lines_is [])
 
 -- ---- one after another
-lines_both : (put more : List ℕ) → IsOfWholeLines put → whole_lines (put ++ more) ≡ whole_lines put ++ whole_lines more
+pub lines_both : (put more : List ℕ) → IsOfWholeLines put → whole_lines (put ++ more) ≡ whole_lines put ++ whole_lines more
 lines_both put more whole = whole_lines-append put more ∙ ap (λ (left : List ℕ). whole_lines put ++ whole_lines (left ++ more)) whole
 
 pub named_both : (name put more : List ℕ) → IsOfWholeLines put → named name (put ++ more) ≡ named name put ++ named name more
