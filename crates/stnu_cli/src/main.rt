@@ -7,6 +7,7 @@
 ghost use Rattle.std.specs.Prelude.{map, string_bytes};
 ghost use Rattle.stnu_run.specs.AcrossCommands.{AgreesAcrossCommands};
 ghost use Rattle.stnu_run.specs.EngineLaws.{EngineIsLawful};
+ghost use Rattle.stnu_run.specs.RelaxedRuns.{HoldsOfRelaxed};
 ghost use Rattle.stnu_run.specs.RunClaims.{HoldsOfRun};
 ghost use Rattle.stnu_run.specs.RunLaws.{IsOnlyDefined, OptionsChangeNothing, PutsAccepted};
 ghost use Rattle.stnu_run.specs.Table.{RefusesOutside};
@@ -36,8 +37,8 @@ fn given_words<R: Env + AllocGlobal>(rt: &R) -> Result<Vec<String>, AllocError> 
 /// Answers words over a port. The status is 2 only if the words are not in the table of commands;
 /// and there it is, unless the refusal was not put, at 6, or there was no memory, at 8. What is put
 /// as a certificate `judge` accepts, no other bytes are defined, the number of workers and of
-/// feeders and the engine change nothing, and other commands say the same of the same plan. The
-/// laws of the engine hold.
+/// feeders and the engine change nothing, other commands say the same of the same plan, and a plan
+/// that is relaxed stays controllable, with no later deadline. The laws of the engine hold.
 fn answer<R: Threads + Sync, P: Port>(
     rt: &R,
     alloc: Global,
@@ -52,6 +53,8 @@ fn answer<R: Threads + Sync, P: Port>(
     ensures options { HoldsOfRun OptionsChangeNothing (map string_bytes words.now.items) result
         (P.seen port.old) (P.seen port.new) }
     ensures agrees { HoldsOfRun AgreesAcrossCommands (map string_bytes words.now.items) result
+        (P.seen port.old) (P.seen port.new) }
+    ensures relaxed { HoldsOfRun HoldsOfRelaxed (map string_bytes words.now.items) result
         (P.seen port.old) (P.seen port.new) }
     ensures engine { EngineIsLawful }
 {

@@ -17,6 +17,7 @@ pub mod SessionProofLemmas
 pub mod DeadlineProofLemmas
 pub mod RelaxedPlanLemmas
 pub mod RelaxedDeadlineLemmas
+pub mod RelaxedRunLemmas
 pub mod VerdictLemmas
 pub mod DeclaredLemmas
 pub mod StrongVerdictLemmas

@@ -43,7 +43,7 @@ use Rattle.stnu_run.specs.RelaxedDeadlines.{IsDeadlineRun, PutsTightest, Relaxed
 use Rattle.stnu_run.specs.RelaxedPlans.{BeginRelaxed}
 use Rattle.stnu_run.proofs.DeadlineProofLemmas.{goal_sound, points_made, spare_of}
 use Rattle.stnu_run.proofs.RelaxedPlanLemmas.{answer_by, no_answer}
-use Rattle.stnu_run.proofs.SessionProofLemmas.{declared_numbers}
+use Rattle.stnu_run.proofs.PlanNumberLemmas.{declared_numbers}
 
 -- the network of an input, its two points, and what is said of them
 record AskedOf (said : DeadlineWords) (input : List ℕ) (query : PlanPoints) : Type 0 where

@@ -7,6 +7,7 @@ pub mod SessionCertificates
 pub mod DeadlineCertificates
 pub mod RelaxedPlans
 pub mod RelaxedDeadlines
+pub mod RelaxedRuns
 pub mod ShownPlans
 pub mod PlayedDays
 pub mod AcrossCommands

@@ -3,6 +3,7 @@
 
 ghost use Rattle.stnu_run.specs.AcrossCommands.{AgreesAcrossCommands};
 ghost use Rattle.stnu_run.specs.EngineLaws.{EngineIsLawful};
+ghost use Rattle.stnu_run.specs.RelaxedRuns.{HoldsOfRelaxed};
 ghost use Rattle.stnu_run.specs.RunClaims.{HoldsOfRuns};
 ghost use Rattle.stnu_run.specs.RunLaws.{OptionsChangeNothing, PutsAccepted, RunsAreOnlyDefined};
 ghost use Rattle.stnu_run.specs.Table.{RunsRefuseExactlyWordsOutsideTheTable};
@@ -16,6 +17,8 @@ use crate::certificate_laws::{
     law_deadlines_are_accepted, law_printed_means_accepted, law_session_proofs_are_accepted,
 };
 use crate::laws::{law_defined_run_is_one, law_feeders_change_nothing, law_workers_change_nothing};
+use crate::relaxed_deadline_laws::law_relaxed_deadlines_are_no_greater;
+use crate::relaxed_plan_laws::law_relaxed_plans_stay_controllable;
 use crate::table_laws::{
     law_runs_refuse_words_outside_the_table, law_words_are_refused_outside_the_table,
 };
@@ -36,7 +39,8 @@ use shared_table_laws::laws::{
 /// refused exactly if they are not in the table. `accepted`: what is put as a certificate `judge`
 /// accepts. `only`: no other bytes are defined, if the bytes are exact. `options`: the number of
 /// workers and of feeders, and the engine, change nothing. `agrees`: other commands say the same of
-/// the same plan. `engine`: what no bytes show, of tables that workers share, of executions, and of
+/// the same plan. `relaxed`: what is put of a plan holds of each to which that is relaxed.
+/// `engine`: what no bytes show, of tables that workers share, of executions, and of
 /// sessions that memory was refused to.
 pub fn law_runs_are_lawful()
     ensures refuses { RunsRefuseExactlyWordsOutsideTheTable }
@@ -44,6 +48,7 @@ pub fn law_runs_are_lawful()
     ensures only { RunsAreOnlyDefined }
     ensures options { HoldsOfRuns OptionsChangeNothing }
     ensures agrees { HoldsOfRuns AgreesAcrossCommands }
+    ensures relaxed { HoldsOfRuns HoldsOfRelaxed }
     ensures engine { EngineIsLawful }
 {
     law_runs_refuse_words_outside_the_table();
@@ -62,6 +67,8 @@ pub fn law_runs_are_lawful()
     law_verdicts_agree_with_check();
     law_shown_plans_have_the_same_answers();
     law_played_days_are_acted();
+    law_relaxed_plans_stay_controllable();
+    law_relaxed_deadlines_are_no_greater();
     law_engine_is_lawful();
 }
 

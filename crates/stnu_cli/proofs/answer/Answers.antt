@@ -21,5 +21,9 @@ pub returns-clause-agrees : goal.returns-clause-agrees
 returns-clause-agrees g c =
     c.law_runs_are_lawful.ensures.agrees (map string_bytes c.args.words.now.items) c.run.result (g.P.Port.seen c.args.port.now) (g.P.Port.seen c.run.new.port) c.run.ensures.status
 
+pub returns-clause-relaxed : goal.returns-clause-relaxed
+returns-clause-relaxed g c =
+    c.law_runs_are_lawful.ensures.relaxed (map string_bytes c.args.words.now.items) c.run.result (g.P.Port.seen c.args.port.now) (g.P.Port.seen c.run.new.port) c.run.ensures.status
+
 pub returns-clause-engine : goal.returns-clause-engine
 returns-clause-engine g c = c.law_runs_are_lawful.ensures.engine

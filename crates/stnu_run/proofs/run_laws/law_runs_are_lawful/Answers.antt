@@ -1,6 +1,8 @@
 use Rattle.stnu_run.specs.AcrossCommands.{AgreesAcrossCommands}
+use Rattle.stnu_run.specs.RelaxedRuns.{HoldsOfRelaxed}
 use Rattle.stnu_run.specs.RunLaws.{OptionsChangeNothing, PutsAccepted}
 use Rattle.stnu_run.proofs.OptionLemmas.{counts_change_nothing, engine_changes_the_limit_alone}
+use Rattle.stnu_run.proofs.RelaxedRunLemmas.{holds_of_relaxed}
 use Rattle.stnu_run.proofs.RunClaimLemmas.{of_runs, only_defined}
 use Rattle.stnu_run.proofs.run_laws.law_runs_are_lawful.Goals as goal
 
@@ -32,6 +34,10 @@ returns-clause-agrees c = of_runs AgreesAcrossCommands (λ words input put statu
   shown = c.law_shown_plans_have_the_same_answers.ensures words input put status defines;
   played = c.law_played_days_are_acted.ensures words input put status defines;
 })
+
+pub returns-clause-relaxed : goal.returns-clause-relaxed
+returns-clause-relaxed c =
+    of_runs HoldsOfRelaxed (holds_of_relaxed c.law_relaxed_plans_stay_controllable.ensures c.law_relaxed_deadlines_are_no_greater.ensures)
 
 pub returns-clause-engine : goal.returns-clause-engine
 returns-clause-engine c = c.law_engine_is_lawful.ensures
