@@ -160,6 +160,18 @@ def falling(points, kept):
     return lines
 
 
+def loops(points, kept):
+    """Links round one contingent point, one for each two points: its loop, unrolled, is twice as
+    long with each link more, and its refutation has `2 * n * n + 5 * n` lines for `n` links."""
+    count = points // 2
+    lines = ["point X"] + [f"point {kind}{j}" for j in range(1, count + 1) for kind in "AC"]
+    lines += [f"link A{j} 1 {count + 3 if j == 1 else j + 2} C{j}" for j in range(1, count + 1)]
+    for j in range(2, count + 1):
+        lines += [f"bound out{j} C1 C{j} 1", f"bound back{j} C{j} C1 {count + 2 * j - 1}"]
+    lines += [f"bound before C1 X {-count}", f"bound after X C1 {3 * count + (1 if kept else 0)}"]
+    return lines
+
+
 KINDS = {
     "chain": chain,
     "tasks": tasks,
@@ -168,5 +180,6 @@ KINDS = {
     "dense": dense,
     "falling": falling,
     "crossing": crossing,
+    "loops": loops,
     "day": day,
 }

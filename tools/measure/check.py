@@ -3,9 +3,10 @@
 The kinds of plans (tools/inputs/plans.py) are measured in one run, each at every number of POINTS:
 a chain of bounds without links (chain), drawn days of tasks (tasks), lanes of tasks with links and
 bounds across (lanes), plans with many bounds (dense), plans whose entries fall in as many rounds as
-there are points (falling), links whose completions must lie close to one another (crossing), and a
-day of tasks of which nature decides every second duration (day). Of each kind there is one plan
-that can be kept and one that cannot.
+there are points (falling), links whose completions must lie close to one another (crossing), links
+round one contingent point whose loop goes round others (loops), and a day of tasks of which nature
+decides every second duration (day). Of each kind there is one plan that can be kept and one that
+cannot.
 
 The plain programs stand in tools/plain, in Rust, and are built by `cargo build --release`: `told`
 makes the same rounds by rows that are told what fell, and tells their number and that of the nodes;
