@@ -8,7 +8,9 @@ use Rattle.closure_laws.specs.Forward.{IsDispatchedForward}
 use Rattle.closure_laws.specs.ForwardLaws.{OrderedForwardTablesAreControllable}
 use Rattle.closure_model.specs.Orders.{placed_points}
 use Rattle.closure_model.specs.Tables.{Graph}
-use Rattle.dispatch_net.specs.Dispatchable.{dispatchable}
+use Rattle.dispatch_net.specs.Dispatchable.{DispatchLists, dispatchable}
+use Rattle.dispatch_net.specs.Laws.{SlimStaysSlim}
+use Rattle.dispatch_net.specs.Slim.{slimmed}
 use Rattle.dispatch_net.specs.declared.dispatch.Conditions.{Conditions}
 use Rattle.dispatch_net.proofs.ExecutionLemmas.{dispatchable_length}
 use Rattle.execution_model.specs.Alike.{by_lists, GoesAlike, AnsweredAlike}
@@ -28,8 +30,12 @@ use Rattle.execution_model.proofs.EarliestLemmas.{fed_append}
 use Rattle.execution_model.proofs.FedLemmas.{fed_on, fed_setting}
 use Rattle.execution_model.proofs.MomentLemmas.{length-time_runs}
 use Rattle.execution_model.proofs.SlimFeedLemmas.{started_by}
-use Rattle.forward_executor.specs.ForwardExecutions.{closure_lists, by_closure, HasAllCome, ComesFrom, fed, refused, over, IsForwardExecution}
+use Rattle.forward_executor.specs.ForwardExecutions.{closure_lists, by_closure, HasAllCome, ComesFrom, fed, refused, over, IsForwardExecution, IsSlim}
 use Rattle.forward_executor.proofs.AllComeLemmas.{AllHave, acted_have, taken_have, over_alike, have_all, all_have}
+
+-- a dispatchable network that was made slim is slim
+pub made_slim : SlimStaysSlim → (whole slim : DispatchLists) → slim.links ≡ whole.links → slim.kept ≡ slimmed whole.links whole.kept → IsSlim slim
+made_slim stays whole slim links kept = (λ i. slimmed (links i) (kept i)) ∙ (stays whole.links whole.kept ∙ sym kept)
 
 -- ---- what an execution comes to
 -- every point has come after a feed that was taken, if it had before

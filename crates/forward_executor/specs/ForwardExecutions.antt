@@ -7,6 +7,7 @@ use Rattle.closure_model.specs.Tables.{Graph}
 use Rattle.closure_laws.specs.Forward.{IsDispatchedForward}
 use Rattle.canonical_closure.specs.CanonicalClosure.{canonical_closure}
 use Rattle.dispatch_net.specs.Dispatchable.{DispatchLists, dispatchable}
+use Rattle.dispatch_net.specs.Slim.{slimmed}
 use Rattle.dispatch_net.specs.declared.dispatch.Conditions.{Conditions}
 use Rattle.execution_model.specs.Alike.{by_lists}
 use Rattle.execution_model.specs.Feeds.{Execution, started}
@@ -22,6 +23,10 @@ pub record IsForwardDispatch (net : Plan) (lists : DispatchLists) : Type 0 where
   pub dispatched : IsDispatchedForward net table order
   pub links : lists.links ≡ net.links
   pub made : lists.made ≡ dispatchable net table
+
+-- no lower bound or wait that is kept of a dispatchable network is implied by others that are kept
+abbrev pub IsSlim : DispatchLists → Type 0
+IsSlim lists = slimmed lists.links lists.kept ≡ lists.kept
 
 -- the lower bounds and waits of the closure of a network
 abbrev pub closure_lists : Plan → List Conditions

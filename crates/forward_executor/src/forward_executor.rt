@@ -6,7 +6,7 @@ ghost use Rattle.canonical_closure.specs.CanonicalClosure.{canonical_closure};
 ghost use Rattle.net_model.specs.Moments.{moment_of};
 ghost use Rattle.execution_model.specs.Feeds.{started, IsFed, IsFinished, IsDueAnswer};
 ghost use Rattle.execution_model.specs.Laws.{setting_of};
-ghost use Rattle.forward_executor.specs.ForwardExecutions.{IsForwardDispatch};
+ghost use Rattle.forward_executor.specs.ForwardExecutions.{IsForwardDispatch, IsSlim};
 
 use canonical_closure::laws::law_controllable_have_canonical_closures;
 use closure_laws::laws::law_ordered_forward_tables_are_controllable;
@@ -42,14 +42,15 @@ impl Model for ForwardExecutor {
 
 impl ForwardExecutor {
     /// Starts an execution of a network on the dispatchable network of a forward closed table of
-    /// it, the whole or a slim one. No point has come, and nothing was fed. All memory that an
-    /// execution needs is taken here. `AllocError` comes only if memory is refused.
+    /// it, a slim one, as `Dispatch::slim` makes it. No point has come, and nothing was fed. All
+    /// memory that an execution needs is taken here. `AllocError` comes only if memory is refused.
     pub fn start(
         alloc: Global,
         net: &Network,
         dispatch: Dispatch,
     ) -> Result<ForwardExecutor, AllocError>
-        requires { IsForwardDispatch net.now dispatch }
+        requires dispatch { IsForwardDispatch net.now dispatch }
+        requires slim { IsSlim dispatch }
         ensures started { IfOk result (λ forward. forward ≡ started
             (setting_of net.now (canonical_closure net.now))) }
         ensures size { IfOk result
