@@ -1,7 +1,7 @@
 //! The feeders of an execution, and the buffers that a line of events needs.
 
 ghost use Rattle.std.specs.Prelude.{◌≡◌, ◌<◌, ◌≤◌, ◌^◌, ◌+◌, ◌++◌, [], length, vec_len, IfOk};
-ghost use Rattle.std.specs.Prelude.{OnOk};
+ghost use Rattle.std.specs.Prelude.{◌≢◌, OnOk, is_some};
 ghost use Rattle.std.specs.Vec.{vec_capacity};
 ghost use Rattle.std.specs.List.{All, cons_option};
 ghost use Rattle.net_model.specs.Network.{IsPoint, activation};
@@ -9,7 +9,7 @@ ghost use Rattle.sensor_desk.specs.Desks.{IsSeatOfDesk, HasLink};
 ghost use Rattle.sensor_desk.specs.Follower.{open_link};
 ghost use Rattle.desk_feeding.specs.Fed.{IsFedInOrder, most_feeders, most_listed};
 ghost use Rattle.desk_feeding.specs.Feedings.{ArePosted, FeedsAtDesk, HasReadOpen, IsFeedingOf};
-ghost use Rattle.desk_feeding.specs.Feedings.{ReadsIfOpen, links_to};
+ghost use Rattle.desk_feeding.specs.Feedings.{ReadsIfOpen, have_links, is_at, links_to, none_met};
 ghost use Rattle.desk_feeding.specs.Ordered.{IsInOrder};
 
 use crate::point_order::{first_where_same, put_in_order};
@@ -183,6 +183,7 @@ fn links_of(net: &Network, points: &[PointId], links: &mut Vec<LinkId>) -> bool
     requires spare_capacity { length points.now ≤ vec_capacity links.old }
     requires points { All (IsPoint net.now) points.now }
     ensures to { links.new.items ≡ links_to net.now points.now }
+    ensures all { result ≡ have_links net.now points.now }
     ensures links { All (λ link. link.0 < length net.now.links) links.new.items }
     ensures few { length links.new.items ≤ length points.now }
     ensures spare_capacity { vec_capacity links.new ≡ vec_capacity links.old }
@@ -191,7 +192,7 @@ fn links_of(net: &Network, points: &[PointId], links: &mut Vec<LinkId>) -> bool
     let mut all = true;
     for point in points {
         let ends = push_link(net, *point, links);
-        all = all && ends;
+        all &= ends;
     }
     all
 }
@@ -203,6 +204,7 @@ fn push_link(net: &Network, point: PointId, links: &mut Vec<LinkId>) -> bool
     requires links { All (λ link. link.0 < length net.now.links) links.old.items }
     ensures to { links.new.items ≡ links.old.items ++ cons_option
         (activation net.now point) [] }
+    ensures ends { result ≡ is_some (activation net.now point) }
     ensures links { All (λ link. link.0 < length net.now.links) links.new.items }
     ensures few { length links.new.items ≤ length links.old.items + 1 }
     ensures spare_capacity { vec_capacity links.new ≡ vec_capacity links.old }
@@ -231,6 +233,7 @@ fn post<R: Threads + Sync>(
     requires links { All (HasLink desk.now) links.now }
     requires moment { moment < 2 ^ 63 }
     ensures posted { ArePosted links.now moment feeders.old.items feeders.new.items }
+    ensures first { links.now ≢ [] → result ≡ none_met feeders.new.items }
     ensures seats { All (λ feeder. IsSeatOfDesk desk.now feeder.seat) feeders.new.items }
 {
     if links.is_empty() {
@@ -242,7 +245,9 @@ fn post<R: Threads + Sync>(
 }
 
 /// Whether no feeder found a moment that stood before.
-fn none_met(feeders: &[Feeder]) -> bool {
+fn none_met(feeders: &[Feeder]) -> bool
+    ensures { result ≡ none_met feeders.now }
+{
     feeders.iter().all(|feeder| feeder.met.is_none())
 }
 
@@ -259,8 +264,8 @@ fn read_open(
     requires seat { IsSeatOfDesk desk.now seat.old }
     requires net { desk.now.about.net.value ≡ net.now }
     requires executor { length executor.now.setting.dispatch ≡ length net.now.points }
-    ensures reads { HasReadOpen net.now executor.now.moments seat.old (length net.now.points)
-        seat.new }
+    ensures reads { HasReadOpen net.now executor.now.moments moment seat.old
+        (length net.now.points) seat.new }
     ensures seat { IsSeatOfDesk desk.now seat.new }
     ensures spare_capacity { vec_capacity read.new ≡ vec_capacity read.old }
 {
@@ -286,12 +291,23 @@ fn stands_at(
     requires net { desk.now.about.net.value ≡ net.now }
     requires executor { length executor.now.setting.dispatch ≡ length net.now.points }
     requires point { IsPoint net.now point }
-    ensures reads { ReadsIfOpen net.now executor.now.moments point seat.old seat.new }
+    ensures reads { ReadsIfOpen net.now executor.now.moments moment point seat.old seat.new
+        result }
     ensures seat { IsSeatOfDesk desk.now seat.new }
 {
     match open_link(net, executor, point) {
         None => false,
-        Some(link) => desk.read(seat, link) == Some(moment),
+        Some(link) => is_at(desk.read(seat, link), moment),
+    }
+}
+
+/// Whether what was read of a link stands at a moment.
+fn is_at(read: Option<u64>, moment: u64) -> bool
+    ensures { result ≡ is_at moment read }
+{
+    match read {
+        Some(at) => at == moment,
+        None => false,
     }
 }
 

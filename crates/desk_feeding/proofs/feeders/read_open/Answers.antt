@@ -14,7 +14,7 @@ loop-number-preserved c =
     let before = c.loop-number.invariant in
     let here = c.stands_at.ensures in
     record {
-      reads = one_more c.args.net.now c.args.executor.now.moments c.args.seat.now c.loop-number.number c.loop-number.seat c.stands_at.new.seat before.reads here.reads;
+      reads = one_more c.args.net.now c.args.executor.now.moments c.args.moment c.args.seat.now c.loop-number.number c.loop-number.seat c.stands_at.new.seat c.stands_at.result before.reads here.reads;
       seat = here.seat;
       spare_capacity = elim c.if-stands_at.branch [
         | then-stands_at+then-len-capacity w ↦

@@ -6,7 +6,7 @@ use Rattle.desk_feeding.proofs.feeders.read_open.Given as goal
 
 abbrev pub invariant-loop-number : goal.invariant-loop-number
 invariant-loop-number l = record {
-  reads : HasReadOpen l.net l.executor.moments l.fn.seat l.number l.seat;
+  reads : HasReadOpen l.net l.executor.moments l.moment l.fn.seat l.number l.seat;
   seat : IsSeatOfDesk l.desk l.seat;
   spare_capacity : vec_capacity l.read ≡ vec_capacity l.fn.read;
 }
