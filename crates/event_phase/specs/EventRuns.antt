@@ -1,5 +1,5 @@
 -- The execution of a network over lines of events, as it stands.
-use Rattle.std.specs.Prelude.{◌≡◌, length, Option, Some, None}
+use Rattle.std.specs.Prelude.{◌≡◌, ℕ, length, Option, Some, None}
 use Rattle.net_model.specs.Network.{Plan}
 use Rattle.execution_model.specs.Feeds.{Execution}
 use Rattle.desk_feeding.specs.Feedings.{FeedingSeen, IsFeedingOf}
@@ -34,6 +34,13 @@ event_run_in parts = event_run_by (completion_order_where parts.feeding) parts.n
 abbrev pub IsDeskOf : Plan → Option FeedingSeen → Type 0
 IsDeskOf net None = Unit {0}
 IsDeskOf net (Some feeding) = IsFeedingOf net feeding
+
+-- a desk has so many feeders, or there is none
+abbrev pub HasFeeders : (count : Option ℕ) → Option FeedingSeen → Type 0
+HasFeeders None None = Unit {0}
+HasFeeders None (Some feeding) = ⊥
+HasFeeders (Some count) None = ⊥
+HasFeeders (Some count) (Some feeding) = length feeding.feeders ≡ count
 
 -- parts make up an execution of their network
 pub record AreExecutingParts (parts : ExecutingParts) : Type 0 where

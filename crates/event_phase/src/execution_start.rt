@@ -14,6 +14,7 @@ use canonical_closure::laws::law_controllable_have_canonical_closures;
 use closure_laws::laws::law_ordered_forward_tables_are_controllable;
 use command_engine::{Answer, Flow, Word};
 use dispatch_net::Dispatch;
+use dispatch_net::laws::law_slim_stays_slim;
 use net_model::Network;
 use std::alloc::{AllocError, Global};
 
@@ -56,6 +57,7 @@ pub fn begin_with_feeders(
 {
     law_controllable_have_canonical_closures();
     law_ordered_forward_tables_are_controllable();
+    law_slim_stays_slim();
     let state = Executing::start(alloc, net, dispatch.slim(), feeders)?;
     put_start(answer, &state)?;
     Ok(Flow::Continue(state))

@@ -8,13 +8,13 @@ ghost use Rattle.desk_feeding.specs.Fed.{most_feeders};
 ghost use Rattle.execution_model.specs.Feeds.{started, IsDueAnswer};
 ghost use Rattle.canonical_closure.specs.CanonicalClosure.{canonical_closure};
 ghost use Rattle.execution_model.specs.Laws.{setting_of};
-ghost use Rattle.forward_executor.specs.ForwardExecutions.{IsForwardDispatch};
+ghost use Rattle.forward_executor.specs.ForwardExecutions.{IsForwardDispatch, IsSlim};
 ghost use Rattle.event_stream.specs.EventText.{completed, done, said, HasPoints};
 ghost use Rattle.command_engine.specs.declared.machines.Flow.TheVariants.{Finish};
 ghost use Rattle.event_phase.specs.EventPhase.{executing_machine, answer_capacity, AnswersEnd};
 ghost use Rattle.event_phase.specs.EventPhase.{AnswersEvent, AnswersRead, EndsAmong, FeedsAmong};
 ghost use Rattle.event_phase.specs.EventPhase.{FeedsNamed, GoesWith, IsMomentWithin, PutsFed};
-ghost use Rattle.event_phase.specs.EventRuns.{AreExecutingParts, IsDeskOf, event_run_by};
+ghost use Rattle.event_phase.specs.EventRuns.{AreExecutingParts, HasFeeders, IsDeskOf, event_run_by};
 ghost use Rattle.event_phase.specs.EventRuns.{event_run_in};
 ghost use Rattle.event_phase.specs.CompletionOrders.{completion_order_where};
 
@@ -66,9 +66,9 @@ impl Model for Executing {
 }
 
 impl Executing {
-    /// Starts the execution of a network on the dispatchable network of a forward closed table of
-    /// it: no point has come, and no feed was made. If there is a number of feeders, it is fed from
-    /// a desk. `AllocError` comes only if memory is refused.
+    /// Starts the execution of a network on the slim dispatchable network of a forward closed table
+    /// of it: no point has come, and no feed was made. If there is a number of feeders, it is fed
+    /// from a desk. `AllocError` comes only if memory is refused.
     pub(crate) fn start(
         alloc: Global,
         net: Network,
@@ -76,6 +76,7 @@ impl Executing {
         feeders: Option<u32>,
     ) -> Result<Executing, AllocError>
         requires dispatch { IsForwardDispatch net dispatch }
+        requires slim { IsSlim dispatch }
         requires feeders { IfSome feeders (λ count. (1 ≤ count) × (count ≤ most_feeders)) }
         ensures { IfOk result (λ state. state ≡ event_run_by (completion_order_where feeders) net
             (started (setting_of net (canonical_closure net)))) }
@@ -120,6 +121,7 @@ fn feeding_by(
     ensures completion_order { IfOk result
         (λ feeding. completion_order_where feeding ≡ completion_order_where feeders) }
     ensures desk { IfOk result (IsDeskOf net.now) }
+    ensures feeders { IfOk result (HasFeeders feeders) }
 {
     match feeders {
         None => Ok(None),

@@ -1,4 +1,5 @@
 use Rattle.std.proofs.Common.{◌∙◌}
+use Rattle.forward_executor.proofs.ForwardExecutorLemmas.{made_slim}
 use Rattle.event_phase.proofs.ExecutionStartLemmas.{begins_so}
 use Rattle.event_phase.specs.CompletionOrders.{completion_order_where}
 use Rattle.event_phase.proofs.execution_start.begin_with_feeders.Goals as goal
@@ -7,6 +8,9 @@ pub start-requires-clause-dispatch : goal.start-requires-clause-dispatch
 start-requires-clause-dispatch c =
     let is = c.requires.dispatch in
     record { table = is.table; order = is.order; dispatched = is.dispatched; links = c.slim.ensures.links ∙ is.links; made = c.slim.ensures.made ∙ is.made }
+
+pub start-requires-clause-slim : goal.start-requires-clause-slim
+start-requires-clause-slim c = made_slim c.law_slim_stays_slim.ensures c.args.dispatch c.slim.result c.slim.ensures.links c.slim.ensures.kept
 
 pub returns-clause-begins : goal.returns-clause-begins
 returns-clause-begins c =
