@@ -1,15 +1,15 @@
 -- The plans of a fleet are opened, each at its place.
-use Rattle.std.proofs.Common.{◌≡◌, ◌⊎◌, inl, inr, ℕ, ◌<◌, ◌≤◌, zero, suc, List, [], ◌∷◌, ◌++◌, length, get_or, Some, None, Result, Ok, Err, IfOk, refl, sym, ap, ◌∙◌, subst, arith}
+use Rattle.std.proofs.Common.{◌≡◌, ◌⊎◌, inl, inr, ℕ, ◌+◌, ◌<◌, ◌≤◌, zero, suc, List, [], ◌∷◌, ◌++◌, length, map, get_or, Some, None, Result, Ok, Err, IfOk, refl, sym, ap, ◌∙◌, subst, arith}
 use Rattle.std.specs.Prelude.{slice_get}
 use Rattle.std.specs.Option.{option_map}
-use Rattle.std.specs.List.{AllZip}
+use Rattle.std.specs.List.{AllZip, range_with_len}
 use Rattle.std.proofs.lemmas.Slice.Zip.{AllZip-long}
-use Rattle.std.proofs.lemmas.List.{length-map}
+use Rattle.std.proofs.lemmas.List.{length-map, length_push, map-append}
 use Rattle.std.proofs.lemmas.Option.{same_Some, slice_get-map, slice_get_cases, slice_get_within, get_or_from_slice_get}
 use Rattle.net_model.specs.Network.{Plan}
 use Rattle.plan_fleet.specs.FleetPlans.{FleetPlan, OpensTo}
 use Rattle.plan_fleet.specs.Fleets.{AreOpened}
-use Rattle.plan_fleet.specs.FleetStart.{AllDecided, DecidesEach, DecidesTo, IsDecided, OpensDecided, nets_of}
+use Rattle.plan_fleet.specs.FleetStart.{AllDecided, AreNumbered, DecidesEach, DecidesTo, IsDecided, OpensDecided, nets_given, nets_of}
 use Rattle.plan_fleet.specs.declared.fleet_start.Decided.{Decided}
 use Rattle.plan_fleet.specs.declared.fleet_start.Job.{Job}
 
@@ -80,3 +80,39 @@ are_opened {E} jobs nets all members given count each zip = record {
         same_Some job.0.net net
         (sym (ap (option_map (λ (j : Job). j.net)) job.1) ∙ (sym (slice_get-map (λ (j : Job). j.net) jobs place) ∙ (ap (λ (ns : List Plan). slice_get ns place) given ∙ at))) in
         (member.0, member.1, subst (λ (n : Plan). OpensTo n member.0) is_net (opened_one job.0.net one.0 member.0 decided member.2))
+
+-- ---- the places of jobs
+one_place_more : (first count : ℕ) → range_with_len first (suc count) ≡ range_with_len first count ++ (first + count) ∷ []
+one_place_more first zero = let at : first ≡ first + 0 = omega arith in ap (λ (n : ℕ). n ∷ []) at
+one_place_more first (suc count) =
+    let at : first + 1 + count ≡ first + suc count = omega arith in
+    ap (λ (ns : List ℕ). first ∷ ns) (one_place_more (first + 1) count ∙ ap (λ (n : ℕ). range_with_len (first + 1) count ++ n ∷ []) at)
+
+-- one job more, whose place is their number
+pub numbered_more : (jobs after : List Job) (job : Job) → AreNumbered jobs → job.place ≡ length jobs → after ≡ jobs ++ job ∷ [] → AreNumbered after
+numbered_more jobs after job so_far at pushed =
+    let place : Job → ℕ = λ one. one.place in
+    let count : ℕ = length jobs in
+    let long = length_push jobs job in
+    let next : suc count ≡ length (jobs ++ job ∷ []) = omega (arith, long) in
+    let number : 0 + count ≡ count = omega arith in
+    let before : range_with_len 0 (suc count) ≡ range_with_len 0 count ++ count ∷ [] = one_place_more 0 count ∙ ap (λ (n : ℕ). range_with_len 0 count ++ n ∷ []) number in
+    let more : map place (jobs ++ job ∷ []) ≡ range_with_len 0 (length (jobs ++ job ∷ [])) =
+    map-append place jobs (job ∷ []) ∙ ((λ i. so_far i ++ at i ∷ []) ∙ (sym before ∙ ap (range_with_len 0) next)) in
+    subst AreNumbered (sym pushed) more
+
+-- and whose network is the next of those that were given
+pub nets_more : {N : Type 0} (jobs after : List Job) (job : Job) (plans : List (N × Plan)) (plan : N × Plan) → nets_of jobs ≡ nets_given plans → job.net ≡ plan.1
+    → after ≡ jobs ++ job ∷ [] → nets_of after ≡ nets_given (plans ++ plan ∷ [])
+nets_more {N} jobs after job plans plan so_far is pushed =
+    let net : Job → Plan = λ one. one.net in
+    let given : N × Plan → Plan = λ one. one.1 in
+    ap nets_of pushed ∙ (map-append net jobs (job ∷ []) ∙ ((λ i. so_far i ++ is i ∷ []) ∙ sym (map-append given plans (plan ∷ []))))
+
+pub as_many : {N : Type 0} (jobs after : List Job) (job : Job) (plans : List (N × Plan)) (plan : N × Plan) → length jobs ≡ length plans → after ≡ jobs ++ job ∷ []
+    → length after ≡ length (plans ++ plan ∷ [])
+as_many jobs after job plans plan so_far pushed =
+    let one = length_push jobs job in
+    let other = length_push plans plan in
+    let all : length (jobs ++ job ∷ []) ≡ length (plans ++ plan ∷ []) = omega (arith, one, other, so_far) in
+    ap (λ (js : List Job). length js) pushed ∙ all

@@ -1,6 +1,6 @@
 -- How the plans of a fleet are opened: each is decided by its shown form, and then its execution is started if it is controllable.
 use Rattle.std.specs.Prelude.{◌≡◌, ℕ, ◌<◌, List, length, map, Result, Ok, Err, IfOk, slice_index_or}
-use Rattle.std.specs.List.{All}
+use Rattle.std.specs.List.{All, range_with_len}
 use Rattle.net_model.specs.Network.{Plan}
 use Rattle.net_model.specs.ShownForm.{shown_form}
 use Rattle.canonical_closure.specs.CanonicalClosure.{canonical_closure}
@@ -17,6 +17,10 @@ nets_of jobs = map (λ (job : Job). job.net) jobs
 
 abbrev pub nets_given : {N : Type 0} → List (N × Plan) → List Plan
 nets_given plans = map (λ plan. plan.1) plans
+
+-- the places of jobs are counted from 0
+abbrev pub AreNumbered : List Job → Type 0
+AreNumbered jobs = map (λ (job : Job). job.place) jobs ≡ range_with_len 0 (length jobs)
 
 -- its shown form is controllable, and this a forward closed table of it with an order, or it is not
 pub record IsDecided (decided : Decided) : Type 0 where

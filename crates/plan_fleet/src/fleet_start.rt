@@ -5,12 +5,13 @@ ghost use Rattle.std.specs.List.{AllZip};
 ghost use Rattle.verdicts.specs.Decisions.{IsDecidedBy, IsOrderedForwardTable};
 ghost use Rattle.plan_fleet.specs.FleetPlans.{OpensTo, state_at_first};
 ghost use Rattle.plan_fleet.specs.Limits.{most_plans};
-ghost use Rattle.plan_fleet.specs.FleetStart.{AllDecided, DecidesEach, DecidesTo, IsDecided};
-ghost use Rattle.plan_fleet.specs.FleetStart.{OpensDecided, StartsBy, nets_given, nets_of};
+ghost use Rattle.plan_fleet.specs.FleetStart.{AllDecided, AreNumbered, DecidesEach, DecidesTo};
+ghost use Rattle.plan_fleet.specs.FleetStart.{IsDecided, OpensDecided, StartsBy, nets_given, nets_of};
 
 use crate::fleet_plan::FleetPlan;
 use crate::states::State;
 use canonical_closure::laws::law_controllable_have_canonical_closures;
+use dispatch_net::laws::law_slim_stays_slim;
 use forward_closure::ForwardClosed;
 use forward_executor::ForwardExecutor;
 use net_model::{Name, Network};
@@ -40,7 +41,8 @@ pub(crate) struct Decided {
 /// refused.
 pub(crate) fn jobs_of(alloc: Global, plans: Vec<(Name, Network)>) -> Result<Vec<Job>, AllocError>
     requires { length plans.items ≤ most_plans }
-    ensures { IfOk result (λ jobs. nets_of jobs.items ≡ nets_given plans.items) }
+    ensures nets { IfOk result (λ jobs. nets_of jobs.items ≡ nets_given plans.items) }
+    ensures places { IfOk result (λ jobs. AreNumbered jobs.items) }
 {
     let mut jobs = Vec::new(alloc);
     for plan in plans {
@@ -157,6 +159,7 @@ fn start(
     requires { IsOrderedForwardTable net.now closed.now }
     ensures { IfOk result (StartsBy net.now) }
 {
+    law_slim_stays_slim();
     let dispatch = dispatch_by(alloc, net, closed)?;
     ForwardExecutor::start(alloc, net, dispatch.slim())
 }

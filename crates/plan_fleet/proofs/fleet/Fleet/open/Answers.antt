@@ -7,5 +7,5 @@ gather-requires g c = all_decided c.in_ok-jobs.jobs.items c.in_ok-decided.decide
 
 pub returns : goal.returns
 returns g c =
-    are_opened c.in_ok-jobs.jobs.items (nets_given c.args.plans.items) c.in_ok-decided.decided.items c.in_ok-members.members.items c.in_ok-jobs.ensures c.in_ok-decided.ensures.len c.in_ok-decided.ensures.each
+    are_opened c.in_ok-jobs.jobs.items (nets_given c.args.plans.items) c.in_ok-decided.decided.items c.in_ok-members.members.items c.in_ok-jobs.ensures.nets c.in_ok-decided.ensures.len c.in_ok-decided.ensures.each
     c.in_ok-members.ensures
