@@ -1,3 +1,4 @@
+pub mod NamedDayLemmas
 pub mod RunLemmas
 pub mod RunOnceLemmas
 pub mod RunEndLemmas

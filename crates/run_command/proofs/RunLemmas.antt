@@ -37,6 +37,7 @@ use Rattle.event_phase.proofs.DueLemmas.{due_answered}
 use Rattle.event_phase.proofs.ExecutionLemmas.{OpenedBy, IsOpened, Lasts, lasts, execution_keeps, whole_by, refused_so, fault_so, fault_not}
 use Rattle.event_phase.proofs.StatedLemmas.{ShowsStated, refused_as_stated, whole_as_stated}
 use Rattle.input_texts.proofs.PlanInputLemmas.{input_by, input_sound}
+use Rattle.run_command.proofs.NamedDayLemmas.{named_keeps}
 
 module _ (query : RunForm) where
   -- ---- what follows on the reading of a plan
@@ -221,4 +222,6 @@ module _ (query : RunForm) where
           refused = refused_by_day input put end follows;
           faults = faults_by input put end follows;
           declared = declared_by input put end follows;
+          named = named_keeps (plan_opens query).opens (input_lines input) query.completion_order put end
+              (execution_keeps laws (plan_opens query) (input_lines input) put end (leads input put end follows)) (completes_by input put end follows) (refused_by_day input put end follows);
         }

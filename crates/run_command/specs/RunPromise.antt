@@ -22,6 +22,7 @@ use Rattle.event_phase.specs.StatedDay.{HasStatedRefusal, HasStatedWholeDay}
 use Rattle.common_answers.specs.Faults.{refusing}
 use Rattle.input_texts.specs.PlanInput.{plan_in}
 use Rattle.command_contracts.specs.Programs.{Program, or_nothing, serves}
+use Rattle.run_command.specs.NamedDays.{KeepsAsNamed}
 use Rattle.run_command.specs.RunCommand.{RunForm, run_machine, run_start}
 use Rattle.common_answers.specs.VerdictLines.{controllable_line, PutsRefuted}
 use Rattle.common_answers.specs.declared.faults.Fault.{Fault}
@@ -57,7 +58,8 @@ pub record EndsAsDeclared (query : RunForm) (input : List InputLine) (end : End)
 -- of the network that the input declares, or puts the first refusal of the input. `execution`: what is promised of an execution that is opened so, of its shown
 -- form and of the network as stated. `completes`: it ends as whole only for a controllable network and a faithful stream that is done. `refused`: it ends by a
 -- refused event only if a line states what no faithful stream does. `faults`: it ends by a fault only if the input has a first refusal, or its lines of events
--- a fault. `declared`: the first two of these three, of the network as it is declared.
+-- a fault. `declared`: the first two of these three, of the network as it is declared. `named`: what is promised of the lines as they name their points, also
+-- if there are feeders and the points are passed to the execution in the order of their numbers.
 pub record RunPromise (query : RunForm) (input put : List ℕ) (end : End) : Type 0 where
   pub opens : AnswersText (plan_in query.form) refusing OpensExecution input put end
   pub execution : ExecutionPromise (plan_opens query) (input_lines input) put end
@@ -66,6 +68,7 @@ pub record RunPromise (query : RunForm) (input put : List ℕ) (end : End) : Typ
   pub faults : (end ≡ ends.Fault) ⊎ (end ≡ ends.Limit)
       → (fault : Fault) × (IsFirstRefusal (plan_in query.form) (input_lines input) fault ⊎ HasEventFault (plan_opens query) (input_lines input) fault)
   pub declared : EndsAsDeclared query (input_lines input) end
+  pub named : KeepsAsNamed (plan_opens query) (input_lines input) put end
 
 -- What in an input a run of `run` ends by: the first refusal of its plan, or that of its lines of events. It is whole if it declares a network within the
 -- limits and, if that is controllable, lists a faithful stream that is done.

@@ -3,6 +3,7 @@
 ghost use Rattle.std.specs.Prelude.{◌≡◌, ◌↔◌, ◌++◌, ℕ, List, Some};
 ghost use Rattle.command_contracts.specs.Requests.{requested_by};
 ghost use Rattle.run_command.specs.RunCommand.{RunForm, run_request, run_syntax};
+ghost use Rattle.run_command.specs.NamedDays.{OrdersDecideNothing};
 ghost use Rattle.run_command.specs.OrderedTexts.{FeedersPutTheLinesInOrder};
 ghost use Rattle.run_command.specs.Words.{SayRun, SpellsFeeders};
 ghost use Rattle.command_contracts.specs.Programs.{EachDefinesOne, RunsEndByCause};
@@ -34,13 +35,18 @@ pub fn law_feeders_decide_nothing()
 
 /// With feeders, however many, `run` puts for an input what it puts without them for that input
 /// with the names of each line of events in the order of the numbers of their points, and ends so.
-/// That each input has one in that order no clause says; what `run` with feeders promises
-/// (`RunPromise`) doesn't rest on it.
+/// What it promises of the lines as they name their points is `RunPromise` (`named`).
 pub fn law_feeders_put_the_lines_in_order()
     ensures { FeedersPutTheLinesInOrder }
 {
     law_lines_have_one_reading();
 }
+
+/// In which order listings name their points decides nothing of what a stream is: with another
+/// order it fits the same situations, by the same schedules, and so it is faithful or not.
+pub fn law_orders_decide_nothing()
+    ensures { OrdersDecideNothing }
+{}
 
 /// Whatever the words ask of `run`, an input has one run at most, each run ends by the causes in
 /// its input, and the number of workers decides nothing of the request.

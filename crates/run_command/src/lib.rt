@@ -6,7 +6,7 @@ mod laws;
 mod plan_execution;
 
 pub use laws::{
-    law_feeders_decide_nothing, law_feeders_put_the_lines_in_order, law_run_is_lawful,
-    law_run_is_read_exactly,
+    law_feeders_decide_nothing, law_feeders_put_the_lines_in_order, law_orders_decide_nothing,
+    law_run_is_lawful, law_run_is_read_exactly,
 };
 pub use plan_execution::Run;
