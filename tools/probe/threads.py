@@ -4,8 +4,9 @@
 Each call is made without a number of workers and with each of WORKERS. Whenever workers share work,
 the rows of a round, the test of a closed table or a sweep over shared cells, one thread less than
 workers is started; and one less than feeders at each line of events that names a contingent point.
-How often a call shares work stands beside it, and among how many at most: a worker tests 64 rows at
-least. The program is traced (ptrace), and each start of a thread stops it, so none is missed,
+The plans of a fleet are decided by one thread each, whose tables no further thread tests. How often
+a call shares work stands beside it, and among how many at most: a worker tests 64 rows at least.
+The program is traced (ptrace), and each start of a thread stops it, so none is missed,
 however short it lives. Prints what each call started; the status is 1 where that is another number
 than it must be, where a call ends with another status than it must, or where an answer is another
 one than without a number, and 2 where the program cannot be started or traced. (`examples/run-all`
@@ -71,10 +72,24 @@ def chains():
     yield "end"
 
 
+# How many plans a fleet has.
+PLANS = 5
+
+
+def fleet():
+    """A fleet of such plans, each of which is decided alone."""
+    yield "fleet 1"
+    for i in range(PLANS):
+        yield f"plan f{i}"
+        yield from plan()
+    yield from ["go", "end"]
+
+
 @dataclass
 class Call:
     """The words of a call, the lines of its input, its status, how often work is shared, and among
-    how many workers at most."""
+    how many workers at most; how often it is shared among as many as are asked for, besides; and the
+    option that says how many, or the number that there is without one."""
 
     name: str
     words: list
@@ -82,7 +97,9 @@ class Call:
     status: int
     shared: int
     most: int
+    further: int = 0
     option: str = "--workers"
+    always: int = 1
 
 
 # A plan of two links, and lines of a day of it, of which two name points.
@@ -96,6 +113,8 @@ CALLS = [
     Call("check --proof", ["check", "--proof"], [*plan()], 0, 1, TESTERS),
     Call("check of a plan that cannot be kept", ["check"], [*plan(BROKEN)], 1, 1, MOST),
     Call("check --engine cells", ["check", "--engine", "cells"], FEW, 0, 1, MOST),
+    # A sweep, and the test of its table.
+    Call("check --engine cells of many points", ["check", "--engine", "cells"], [*plan()], 0, 1, TESTERS, 1),
     Call("check --engine rounds", ["check", "--engine", "rounds"], FEW, 0, 0, MOST),
     Call("run", ["run"], [*plan(), "done"], 0, 1, TESTERS),
     Call("run of a plan that cannot be kept", ["run"], [*plan(BROKEN)], 1, 1, MOST),
@@ -103,6 +122,8 @@ CALLS = [
     # A table of the plan is closed forward, and one with the one number that is tried, which will
     # do; then the closure with that number, which proves it.
     Call("deadline", ["deadline", "p1", "first"], [*plan()], 0, 3, TESTERS),
+    # Of the plan with the least number too; and the number below it is refuted by a round.
+    Call("deadline and refutation", ["deadline", "first", "p1"], [*plan()], 0, 3, TESTERS, 1),
     Call("deadline of a plan that cannot be kept", ["deadline", "first", "p1"], [*plan(BROKEN)], 1, 1, MOST),
     # A round when it is opened, and one after each edit.
     Call("session", ["session"], [*plan(), *EDITS, "verdict", "end"], 0, 3, MOST),
@@ -110,7 +131,8 @@ CALLS = [
     Call("session of chains", ["session"], [*chains(), "verdict", "end"], 0, 2, MOST),
     # Of so small a network the rounds after the first are one worker's.
     Call("forge", ["forge", "7", "9"], [], 0, 1, MOST),
-    Call("run --feeders", ["run"], TWO_LINKS, 0, 2, MOST, "--feeders"),
+    Call("run --feeders", ["run"], TWO_LINKS, 0, 2, MOST, option="--feeders"),
+    Call("fleet", ["fleet"], [*fleet()], 0, 1, MOST, option="", always=PLANS),
 ]
 
 
@@ -161,14 +183,15 @@ def threads(words, lines):
 
 
 def must_start(call, count):
-    return (min(count, call.most) - 1) * call.shared if count else 0
+    count = count or call.always
+    return (min(count, call.most) - 1) * call.shared + (count - 1) * call.further
 
 
 def is_right(program, call):
     """Makes a call without a number and with each number of workers; answers whether all is as it
     must be."""
     words = [program, *call.words]
-    counts = {count: [call.option, str(count)] if count else [] for count in [None, *WORKERS]}
+    counts = {None: []} | {count: [call.option, str(count)] for count in WORKERS if call.option}
     found = {count: threads([*words, *option], call.lines) for count, option in counts.items()}
     wrong = [
         count
