@@ -1,5 +1,5 @@
 -- The search for the tightest deadline: what it begins with, and to what it comes.
-use Rattle.std.specs.Prelude.{◌≡◌, ◌⊎◌, ◌<◌, ◌≤◌, ℤ, pos, ◌-ℤ◌, length, Option, Some, None}
+use Rattle.std.specs.Prelude.{◌≡◌, ◌⊎◌, ◌<◌, ◌≤◌, ℤ, pos, ◌+ℤ◌, ◌-ℤ◌, ◌≤ℤ◌, length, Option, Some, None}
 use Rattle.net_model.specs.Limits.{most_bounds}
 use Rattle.net_model.specs.Network.{Plan, IsPoint, bound_named}
 use Rattle.work_board.specs.Limits.{most_seats}
@@ -28,6 +28,10 @@ pub record IsLastDeadline (net : Plan) (goal : Goal) (most : ℤ) : Type 0 where
 abbrev pub IsFoundDeadline : Plan → Goal → Option ℤ → Type 0
 IsFoundDeadline net goal (Some most) = IsLastDeadline net goal most
 IsFoundDeadline net goal None = ¬ IsDeadline net goal highest
+
+-- a number is half way from one to another, or half below that
+abbrev pub IsHalfWay : (low high half : ℤ) → Type 0
+IsHalfWay low high half = ((half +ℤ half) ≤ℤ (low +ℤ high)) × ((low +ℤ high) ≤ℤ ((half +ℤ half) +ℤ pos 1))
 
 -- the greatest step of a search: from it on every number is in reach
 abbrev pub widest : ℤ

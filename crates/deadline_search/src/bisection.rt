@@ -1,9 +1,10 @@
 //! The search for the least deadline: from a guess down or up, by steps that double, and then by
 //! halving.
 
-ghost use Rattle.std.specs.Prelude.{pos, ◌+ℤ◌, ◌≤ℤ◌, ◌<ℤ◌, IfOk};
+ghost use Rattle.std.specs.Prelude.{◌≡◌, pos, ◌+ℤ◌, ◌-ℤ◌, ◌≤ℤ◌, ◌<ℤ◌, IfOk};
+ghost use Rattle.std.specs.Int.{int_max, int_min};
 ghost use Rattle.deadline_search.specs.Deadlines.{IsDeadline, lowest, highest};
-ghost use Rattle.deadline_search.specs.Trials.{IsFoundDeadline, IsLastDeadline};
+ghost use Rattle.deadline_search.specs.Trials.{IsFoundDeadline, IsHalfWay, IsLastDeadline};
 ghost use Rattle.deadline_search.specs.Trials.{IsSearch, widest};
 
 use crate::goal::{HIGHEST, LOWEST};
@@ -19,7 +20,8 @@ const WIDEST: Weight = HIGHEST - LOWEST;
 /// Twice a step, as far as there is need.
 fn doubled(step: Weight) -> Weight
     requires { (pos 1 ≤ℤ step) × (step ≤ℤ widest) }
-    ensures { (pos 1 ≤ℤ result) × (result ≤ℤ widest) }
+    ensures within { (pos 1 ≤ℤ result) × (result ≤ℤ widest) }
+    ensures twice { result ≡ int_min (step +ℤ step) widest }
 {
     (step * 2).min(WIDEST)
 }
@@ -31,6 +33,7 @@ fn higher(failed: Weight, step: Weight) -> Weight
     requires step { (pos 1 ≤ℤ step) × (step ≤ℤ widest) }
     ensures above { failed <ℤ result }
     ensures high { result ≤ℤ highest }
+    ensures step { result ≡ int_min (failed +ℤ step) highest }
 {
     (failed + step).min(HIGHEST)
 }
@@ -42,6 +45,7 @@ fn lower(kept: Weight, step: Weight) -> Weight
     requires step { (pos 1 ≤ℤ step) × (step ≤ℤ widest) }
     ensures below { result <ℤ kept }
     ensures low { lowest ≤ℤ result }
+    ensures step { result ≡ int_max (kept -ℤ step) lowest }
 {
     (kept - step).max(LOWEST)
 }
@@ -53,6 +57,7 @@ fn middle(failed: Weight, kept: Weight) -> Weight
     requires apart { (failed +ℤ pos 1) <ℤ kept }
     ensures above { failed <ℤ result }
     ensures below { result <ℤ kept }
+    ensures half { IsHalfWay failed kept result }
 {
     failed + (kept - failed) / 2
 }

@@ -19,6 +19,6 @@ loop-failed-preserved g c =
       low = omega (arith, ints, number, c.higher-next.ensures.above, c.loop-failed.invariant.low);
       high = omega (arith, ints, number, c.higher-next.ensures.high);
       none = not_from_Decides c.in_ok-is_deadline.field-0 c.in_ok-is_deadline.ensures c.if-branch.false;
-      forward = omega (arith, ints, step, c.doubled-step.ensures.0);
-      near = omega (arith, ints, step, c.doubled-step.ensures.1);
+      forward = omega (arith, ints, step, c.doubled-step.ensures.within.0);
+      near = omega (arith, ints, step, c.doubled-step.ensures.within.1);
     }
