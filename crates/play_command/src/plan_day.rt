@@ -11,7 +11,8 @@ ghost use Rattle.strategy_model.specs.Situations.{IsSituation, moment_in};
 ghost use Rattle.play_command.specs.PlayPromise.{PlayPromise, PutsPlay};
 ghost use Rattle.play_command.specs.PlayCommand.{PutsTimes, happened_in, play_answers};
 ghost use Rattle.play_command.specs.PlayCommand.{play_request, play_syntax, time_line};
-ghost use Rattle.forward_executor.specs.ForwardExecutions.{IsForwardDispatch};
+ghost use Rattle.execution_model.specs.Feeds.{started};
+ghost use Rattle.forward_executor.specs.ForwardExecutions.{IsForwardDispatch, IsSlim};
 ghost use Rattle.verdicts.specs.Decisions.{IsOrderedForwardTable};
 ghost use Rattle.verdicts.specs.Verdict.{IsControllableBy};
 ghost use Rattle.play_command.specs.PlayedSituation.{situation_of};
@@ -22,6 +23,7 @@ use command_engine::{Answer, End, Question, Word};
 use command_words::{Arguments, Syntax};
 use common_answers::put_refuted;
 use dispatch_net::Dispatch;
+use dispatch_net::laws::law_slim_stays_slim;
 use forward_closure::ForwardClosed;
 use input_texts::{PlanForm, PlanNetwork};
 use live_executor::Executor;
@@ -200,8 +202,20 @@ pub(crate) fn played(
     ensures { IfOk result (λ schedule. IsEarliest net.now situation.now.items schedule.items) }
 {
     net.sound();
-    let mut executor = Executor::start(alloc, net, dispatch.slim())?;
+    law_slim_stays_slim();
+    let mut executor = start_slim(alloc, net, dispatch.slim())?;
     play_out(alloc, &mut executor, net, situation)
+}
+
+/// Starts the execution of a network on a slim dispatchable network of a forward closed table of
+/// it. `AllocError` comes only for want of memory.
+fn start_slim(alloc: Global, net: &Network, dispatch: Dispatch) -> Result<Executor, AllocError>
+    requires dispatch { IsForwardDispatch net.now dispatch }
+    requires slim { IsSlim dispatch }
+    ensures { IfOk result (λ executor. executor ≡ started
+        (record { links = net.now.links; dispatch = dispatch.made })) }
+{
+    Executor::start(alloc, net, dispatch)
 }
 
 /// Puts a line for each point of a network, with its moment by a schedule as it is shown.

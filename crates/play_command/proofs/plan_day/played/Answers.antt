@@ -1,13 +1,15 @@
 use Rattle.std.proofs.Common.{◌∙◌}
-use Rattle.live_executor.proofs.OfClosureLemmas.{dispatch_of}
+use Rattle.forward_executor.proofs.ForwardExecutorLemmas.{made_slim}
 use Rattle.play_command.proofs.PlayLemmas.{started_by}
 use Rattle.play_command.proofs.plan_day.played.Goals as goal
 
-pub start-requires : goal.start-requires
-start-requires c =
-    let net = c.args.net.now in
+pub start_slim-requires-clause-dispatch : goal.start_slim-requires-clause-dispatch
+start_slim-requires-clause-dispatch c =
     let is = c.requires.dispatch in
-    dispatch_of net is.table is.order is.dispatched c.slim.result (c.slim.ensures.links ∙ is.links) (c.slim.ensures.made ∙ is.made)
+    record { table = is.table; order = is.order; dispatched = is.dispatched; links = c.slim.ensures.links ∙ is.links; made = c.slim.ensures.made ∙ is.made }
+
+pub start_slim-requires-clause-slim : goal.start_slim-requires-clause-slim
+start_slim-requires-clause-slim c = made_slim c.law_slim_stays_slim.ensures c.args.dispatch c.slim.result c.slim.ensures.links c.slim.ensures.kept
 
 pub play_out-requires-clause-started : goal.play_out-requires-clause-started
 play_out-requires-clause-started c =
