@@ -5,7 +5,7 @@ ghost use Rattle.cell_table.specs.Limits.{key_count, most_keys};
 ghost use Rattle.plan_session.specs.Sessions.{IsOpenedOn};
 ghost use Rattle.verdicts.specs.Decisions.{IsOrderedClosure, IsOrderedForwardTable};
 ghost use Rattle.verdicts.specs.Verdict.{IsVerdictBy};
-ghost use Rattle.command_contracts.specs.WorkerCounts.{workers_of};
+ghost use Rattle.command_contracts.specs.WorkerCounts.{most_workers, workers_of};
 
 use crate::counts::count_within;
 use forward_closure::ForwardClosed;
@@ -51,6 +51,14 @@ impl WorkerCount {
                 count: count_within(word.as_bytes(), MOST_WORKERS)?,
             }),
         }
+    }
+
+    /// How many they are.
+    pub fn number(&self) -> u32
+        ensures number { result ≡ self.now }
+        ensures within { (1 ≤ result) × (result ≤ most_workers) }
+    {
+        self.count
     }
 
     /// Opens a session of a network. `AllocError` comes only for want of memory.

@@ -3,3 +3,4 @@ pub mod SessionOnceLemmas
 pub mod SessionLines
 pub mod SessionLemmas
 pub mod EditingLemmas
+pub mod DecidedLemmas

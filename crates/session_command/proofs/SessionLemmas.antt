@@ -16,7 +16,6 @@ use Rattle.event_stream.specs.EventText.{EventLine, blank, completed, done}
 use Rattle.execution_model.specs.Feeds.{Execution, started}
 use Rattle.execution_model.specs.Laws.{setting_of}
 use Rattle.execution_model.specs.Streams.{Listing}
-use Rattle.plan_session.specs.Sessions.{State}
 use Rattle.command_engine.specs.AnswersOnce.{AnswersOutcome}
 use Rattle.command_engine.specs.Breaks.{BreaksForMemory, WantsMemory}
 use Rattle.command_engine.specs.Inputs.{AnswersOrRefuses, DeclaresBy, IsFirstRefusal, texts, capacity_after}
@@ -142,7 +141,7 @@ module _ (form : PlanForm) where
 
   -- its network is that of the plan
   opens_net : (net : Plan) (standing : Standing) → OpensOn net standing → net_of standing ≡ net
-  opens_net net standing opens = ap (λ (s : State). s.net) opens.opened.2
+  opens_net net standing opens = ap net_of opens
 
   -- what is put for a network, whatever lines follow
   abbrev Begins : Plan → List ℕ → End → Type 0

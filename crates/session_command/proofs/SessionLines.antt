@@ -20,7 +20,6 @@ use Rattle.edit_script.specs.declared.step.Step.{Step}
 use Rattle.edit_script.specs.declared.step.Step.TheVariants as step
 use Rattle.execution_model.specs.Feeds.{started}
 use Rattle.execution_model.specs.Laws.{setting_of}
-use Rattle.plan_session.specs.Sessions.{State}
 use Rattle.command_engine.specs.Inputs.{texts, capacity_after}
 use Rattle.command_engine.specs.Phases.{wrapped}
 use Rattle.command_engine.specs.Runs.{Here, RepliesTo, Answers, Run as RunOver}
@@ -62,9 +61,7 @@ wraps_executing = record {
 
 -- ---- the network as it stands after a line
 net_edited : (before after : Standing) (edit : Edit) (made : Result Plan EditFault) → edited (net_of before) edit ≡ made → StandsAfterEdit before edit made after → net_of after ≡ accepted_or (net_of before) made
-net_edited before after edit (Ok net) is stands =
-    let one : stands.accepts.net ≡ net = cc (sym stands.accepts.made ∙ is) in
-    ap (λ (s : State). s.net) stands.accepts.is ∙ one
+net_edited before after edit (Ok net) is stands = ap net_of stands.is
 net_edited before after edit (Err cause) is stands = ap net_of stands
 
 pub stands_net : (before after : Standing) (step_stated : Step) → StandsAfter before step_stated after → net_of after ≡ net_after (net_of before) step_stated
@@ -466,7 +463,7 @@ still_edited (line ∷ lines) standing last number spare_capacity said there (an
 -- ---- the network as it stands is sound
 -- after an accepted edit, and after a refused one
 sound_edited : (before after : Standing) (edit : Edit) (made : Result Plan EditFault) → StandsAfterEdit before edit made after → IsPlan (net_of before) → IsPlan (net_of after)
-sound_edited before after edit (Ok net) stands plan = subst IsPlan (sym (ap (λ (s : State). s.net) stands.accepts.is)) stands.accepts.plan
+sound_edited before after edit (Ok net) stands plan = subst IsPlan (sym (ap net_of stands.is)) stands.plan
 sound_edited before after edit (Err cause) stands plan = subst (λ (s : Standing). IsPlan (net_of s)) (sym stands) plan
 
 -- and after any other line, which changes nothing

@@ -1,5 +1,5 @@
 -- Each line of a session has one answer, and after each it stands in one way.
-use Rattle.std.proofs.Common.{◌≡◌, ◌⊎◌, inl, inr, ℕ, List, [], ◌∷◌, ◌++◌, Some, Result, Ok, Err, ap, sym, ◌∙◌, subst}
+use Rattle.std.proofs.Common.{◌≡◌, ◌⊎◌, inl, inr, ℕ, List, [], ◌∷◌, ◌++◌, Option, Some, None, Result, Ok, Err, ap, sym, ◌∙◌, subst}
 use Rattle.texts.specs.Words.{words}
 use Rattle.net_model.specs.EditedNetwork.{edited}
 use Rattle.net_model.specs.Network.{Plan}
@@ -17,7 +17,7 @@ use Rattle.edit_script.specs.declared.step.Step.{Step}
 use Rattle.edit_script.specs.declared.step.Step.TheVariants as step
 use Rattle.event_stream.specs.Laws.{OneReading}
 use Rattle.plan_session.specs.Laws.{SessionsOpenInOneWay, EditsAreFollowedInOneWay}
-use Rattle.plan_session.specs.Sessions.{State, Opened, FollowsEdit, Accepts}
+use Rattle.plan_session.specs.Sessions.{State, Opened, FollowsEdit, Accepts, IsOpenedOn}
 use Rattle.plan_session.specs.declared.answers.Report.{Report}
 use Rattle.command_engine.specs.Single.{IsSingle, IsSingleAnswer}
 use Rattle.command_engine.specs.declared.endings.End.{End}
@@ -28,9 +28,10 @@ use Rattle.command_engine.proofs.PhaseLemmas.{within_same}
 use Rattle.event_phase.specs.EventPhase.{executing_machine}
 use Rattle.common_answers.specs.Faults.{fault_line, fault_end}
 use Rattle.event_phase.specs.ExecutionStart.{BeginsExecution}
-use Rattle.session_command.specs.SessionAnswers.{ready_line, table_text}
+use Rattle.session_command.specs.Followed.{FollowsEdits, HasFollowed, IsReport}
+use Rattle.session_command.specs.SessionAnswers.{ready_line, report_line, table_text}
 use Rattle.session_command.specs.SessionPromise.{SaysSteps, SaysAll}
-use Rattle.session_command.specs.Sessions.{net_of, SaysEdit, SaysVerdict, SaysProof, SaysTable, SaysStep, StandsEdited, StandsAfterEdit, StandsAfter, EditsOn, BeginsByGo, AnswersStep, TakesStep, session_machine, OpensOn, session_begins}
+use Rattle.session_command.specs.Sessions.{net_of, SaysEdit, SaysVerdict, SaysProof, SaysTable, SaysReport, SaysStep, StandsAfterEdit, StandsAfter, EditsOn, BeginsByGo, AnswersStep, TakesStep, session_machine, OpensOn, session_begins}
 use Rattle.session_command.specs.Standing.{Standing}
 use Rattle.common_answers.specs.declared.faults.Fault.TheVariants.{Format}
 use Rattle.session_command.specs.declared.session.InSession.{InSession}
@@ -58,17 +59,6 @@ table_said_once net a b (inl (controls, (table, closure, one))) (inl (also, (sam
 table_said_once net a b (inl (controls, one)) (inr (never, other)) = absurd (never controls)
 table_said_once net a b (inr (never, one)) (inl (controls, other)) = absurd (never controls)
 table_said_once net a b (inr (never, one)) (inr (also, other)) = one ∙ sym other
-
-said_once : (standing : Standing) (step_stated : Step) (a b : List ℕ) → SaysStep standing step_stated a → SaysStep standing step_stated b → a ≡ b
-said_once standing step.Blank a b one other = one ∙ sym other
-said_once standing (step.Edit edit) a b one other = edit_said_once (net_of standing) (edited (net_of standing) edit) a b one other
-said_once standing step.Verdict a b one other = verdict_said_once (net_of standing) a b one other
-said_once standing step.Proof a b one other = proof_said_once (net_of standing) a b one other
-said_once standing step.Table a b one other = table_said_once (net_of standing) a b one other
-said_once standing step.Plan a b one other = one ∙ sym other
-said_once standing step.Report a b one other = one ∙ sym other
-said_once standing step.Go a b one other = one.1 ∙ sym other.1
-said_once standing step.End a b one other = absurd one
 
 -- ---- the reply to a line
 module _ (steps : (line : List (List ℕ)) → OneStep line) where
@@ -106,15 +96,48 @@ module _ (way : OneWay) where
       let same = way.follows (shown_form before.net) edit (shown_form second.net) second.held first.opened second.opened one other moved second.follows in
       (same.1, first.is ∙ (ap (λ (n : Plan). open_state n first.opened) nets ∙ (ap (open_state second.net) same.0 ∙ sym second.is)))
 
-  edited_once : (before : Standing) (edit : Edit) (a b : Standing) → StandsEdited before edit a → StandsEdited before edit b → a ≡ b
-  edited_once before edit a b one other =
-      let same = accepts_once before.session edit one.report other.report a.session b.session one.accepts other.accepts in
-      let sessions : a.session ≡ b.session = same.1 in
-      let reports : a.report ≡ b.report = one.reports ∙ (ap (λ (r : Report). Some r) same.0 ∙ sym other.reports) in
-      λ i. record { session = sessions i; report = reports i }
+  -- and each of more edits
+  follows_once : (edits : List Edit) (before a b : State) (report one other : Option Report) → FollowsEdits before report edits a one → FollowsEdits before report edits b other → (a ≡ b) × (one ≡ other)
+  follows_once [] before a b report one other first second = (sym first.0 ∙ second.0, sym first.1 ∙ second.1)
+  follows_once (edit ∷ edits) before a b report one other (next, now, accepts, more) (also, then, accepted, rest) =
+      let same = accepts_once before edit now then next also accepts accepted in
+      let moved : FollowsEdits also (Some then) edits a one =
+      subst (λ (s : State). FollowsEdits s (Some then) edits a one) same.1 (subst (λ (r : Report). FollowsEdits next (Some r) edits a one) same.0 more) in
+      follows_once edits also a b (Some then) one other moved rest
 
+  opened_once : (net : Plan) (a b : State) → IsOpenedOn net a → IsOpenedOn net b → a ≡ b
+  opened_once net a b one other =
+      let same : one.0 ≡ other.0 = way.opens (shown_form net) one.0 other.0 one.1 other.1 in
+      one.2 ∙ (ap (open_state net) same ∙ sym other.2)
+
+  -- so the report of the last is one
+  followed_once : (first : Plan) (edits : List Edit) (a b : State) (one other : Option Report) → HasFollowed first edits a one → HasFollowed first edits b other → one ≡ other
+  followed_once first edits a b one other has also =
+      let same : has.opened ≡ also.opened = opened_once first has.opened also.opened has.opens also.opens in
+      (follows_once edits also.opened a b None one other (subst (λ (s : State). FollowsEdits s None edits a one) same has.follows) also.follows).1
+
+  report_once : (first : Plan) (edits : List Edit) (one other : Option Report) → IsReport first edits one → IsReport first edits other → one ≡ other
+  report_once first [] one other is also = is ∙ sym also
+  report_once first (edit ∷ edits) one other (session, has) (also, had) = followed_once first (edit ∷ edits) session also one other has had
+
+  report_said_once : (first : Plan) (edits : List Edit) (a b : List ℕ) → SaysReport first edits a → SaysReport first edits b → a ≡ b
+  report_said_once first edits a b (report, is, one) (numbers, also, other) = one ∙ (ap report_line (report_once first edits report numbers is also) ∙ sym other)
+
+  -- ---- the answer to what a line states
+  said_once : (standing : Standing) (step_stated : Step) (a b : List ℕ) → SaysStep standing step_stated a → SaysStep standing step_stated b → a ≡ b
+  said_once standing step.Blank a b one other = one ∙ sym other
+  said_once standing (step.Edit edit) a b one other = edit_said_once (net_of standing) (edited (net_of standing) edit) a b one other
+  said_once standing step.Verdict a b one other = verdict_said_once (net_of standing) a b one other
+  said_once standing step.Proof a b one other = proof_said_once (net_of standing) a b one other
+  said_once standing step.Table a b one other = table_said_once (net_of standing) a b one other
+  said_once standing step.Plan a b one other = one ∙ sym other
+  said_once standing step.Report a b one other = report_said_once standing.first standing.edits a b one other
+  said_once standing step.Go a b one other = one.1 ∙ sym other.1
+  said_once standing step.End a b one other = absurd one
+
+  -- ---- how the session stands after it
   after_edit_once : (before : Standing) (edit : Edit) (made : Result Plan EditFault) (a b : Standing) → StandsAfterEdit before edit made a → StandsAfterEdit before edit made b → a ≡ b
-  after_edit_once before edit (Ok net) a b one other = edited_once before edit a b one other
+  after_edit_once before edit (Ok net) a b one other = one.is ∙ sym other.is
   after_edit_once before edit (Err cause) a b one other = one ∙ sym other
 
   stands_once : (before : Standing) (step_stated : Step) (a b : Standing) → StandsAfter before step_stated a → StandsAfter before step_stated b → a ≡ b
@@ -175,13 +198,7 @@ module _ (way : OneWay) where
 
   -- ---- the command
   opens_once : (net : Plan) (a b : Standing) → OpensOn net a → OpensOn net b → a ≡ b
-  opens_once net a b one other =
-      let first = one.opened in
-      let second = other.opened in
-      let same : first.0 ≡ second.0 = way.opens (shown_form net) first.0 second.0 first.1 second.1 in
-      let sessions : a.session ≡ b.session = first.2 ∙ (ap (open_state net) same ∙ sym second.2) in
-      let reports : a.report ≡ b.report = one.unreported ∙ sym other.unreported in
-      λ i. record { session = sessions i; report = reports i }
+  opens_once net a b one other = one ∙ sym other
 
   pub session_begins_once : IsSingleAnswer session_begins
   session_begins_once start net a b x y (standing, opens, put, goes) (other, also, puts, going) =

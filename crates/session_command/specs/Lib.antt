@@ -1,5 +1,6 @@
 pub mod Standing
-pub mod StandingCode
 pub mod SessionAnswers
 pub mod Sessions
+pub mod Followed
+pub mod EditHistory
 pub mod SessionPromise

@@ -1,8 +1,8 @@
 -- The command `session`: a plan, then edits of its network and questions about it, and after `go` lines of events.
-use Rattle.std.specs.Prelude.{◌≡◌, ◌⊎◌, ℕ, List, [], Option, Some, None, Result, Ok, Err}
+use Rattle.std.specs.Prelude.{◌≡◌, ◌⊎◌, ℕ, List, [], ◌∷◌, ◌++◌, Option, Result, Ok, Err}
 use Rattle.texts.specs.Words.{words}
 use Rattle.net_model.specs.EditedNetwork.{edited}
-use Rattle.net_model.specs.Network.{Plan}
+use Rattle.net_model.specs.Network.{Plan, IsPlan}
 use Rattle.net_model.specs.ShownForm.{shown_form}
 use Rattle.net_model.specs.declared.edit.Edit.{Edit}
 use Rattle.net_model.specs.declared.edit.EditFault.{EditFault}
@@ -20,7 +20,6 @@ use Rattle.texts.specs.Limits.{most_line}
 use Rattle.edit_script.specs.EditText.{IsEditLine, IsEditFaultOfWords}
 use Rattle.edit_script.specs.declared.step.Step.{Step}
 use Rattle.edit_script.specs.declared.step.Step.TheVariants as step
-use Rattle.plan_session.specs.Sessions.{Accepts, IsOpenedOn}
 use Rattle.plan_session.specs.declared.answers.Report.{Report}
 use Rattle.command_words.specs.Arguments.{Arguments}
 use Rattle.command_words.specs.Syntax.{Syntax}
@@ -39,6 +38,7 @@ use Rattle.input_texts.specs.PlanInput.{PlanInput, initial_input, input_reader}
 use Rattle.command_contracts.specs.PlanWords.{requested_form, plan_syntax}
 use Rattle.event_phase.specs.ExecutionStart.{BeginsExecution}
 use Rattle.session_command.specs.SessionAnswers.{ready_line, ok_line, refused_line, report_line, table_text}
+use Rattle.session_command.specs.Followed.{IsReport}
 use Rattle.session_command.specs.Standing.{Standing}
 use Rattle.common_answers.specs.VerdictLines.{controllable_line, refuted_line}
 use Rattle.common_answers.specs.declared.faults.Fault.TheVariants.{Format}
@@ -49,7 +49,7 @@ use Rattle.session_command.specs.declared.session.InSession.TheVariants.{Editing
 -- ---- what a line is answered, as the session stands
 -- the network as it stands
 abbrev pub net_of : Standing → Plan
-net_of standing = standing.session.net
+net_of standing = standing.net
 
 -- the answer to an edit: that it is accepted, or why it is refused
 abbrev pub SaysEdit : Plan → Result Plan EditFault → List ℕ → Type 0
@@ -70,6 +70,10 @@ SaysTable net answer =
     (IsControllable net × ((table : Graph) × IsClosure (shown_form net) table × (answer ≡ table_text (shown_form net) (dispatchable (shown_form net) table))))
     ⊎ ((¬ IsControllable net) × (answer ≡ refuted_line))
 
+-- the answer to `report`: the report of the accepted edits, of the network as it was first
+abbrev pub SaysReport : Plan → List Edit → List ℕ → Type 0
+SaysReport first edits answer = (report : Option Report) × IsReport first edits report × (answer ≡ report_line report)
+
 -- the answer to what a line states after which the network is edited further
 abbrev pub SaysStep : Standing → Step → List ℕ → Type 0
 SaysStep standing step.Blank answer = answer ≡ []
@@ -78,27 +82,27 @@ SaysStep standing step.Verdict answer = SaysVerdict (net_of standing) answer
 SaysStep standing step.Proof answer = SaysProof (net_of standing) answer
 SaysStep standing step.Table answer = SaysTable (net_of standing) answer
 SaysStep standing step.Plan answer = answer ≡ printed_plan (net_of standing)
-SaysStep standing step.Report answer = answer ≡ report_line standing.report
+SaysStep standing step.Report answer = SaysReport standing.first standing.edits answer
 SaysStep standing step.Go answer = (¬ IsControllable (net_of standing)) × (answer ≡ refuted_line)
 SaysStep standing step.End answer = ⊥
 
--- what a line states is a question, or nothing
+-- what a line states is a question about the network as it stands, or nothing
 abbrev pub IsQuestion : Step → Type 0
 IsQuestion step.Go = ⊥
+IsQuestion step.Report = ⊥
 IsQuestion step.End = ⊥
 IsQuestion (step.Edit edit) = ⊥
 IsQuestion step_stated = Unit {0}
 
 -- ---- how it stands after the line
--- after an accepted edit: what was opened followed it, and these are its numbers
-pub record StandsEdited (before : Standing) (edit : Edit) (after : Standing) : Type 0 where
-  pub report : Report
-  pub accepts : Accepts before.session edit report after.session
-  pub reports : after.report ≡ Some report
+-- after an accepted edit, which makes this network, a plan: the edit is the last of the accepted ones
+pub record StandsEdited (before : Standing) (edit : Edit) (net : Plan) (after : Standing) : Type 0 where
+  pub is : after ≡ record { first = before.first; edits = before.edits ++ edit ∷ []; net = net }
+  pub plan : IsPlan net
 
 -- a refused edit changes nothing
 abbrev pub StandsAfterEdit : Standing → Edit → Result Plan EditFault → Standing → Type 0
-StandsAfterEdit before edit (Ok net) after = StandsEdited before edit after
+StandsAfterEdit before edit (Ok net) after = StandsEdited before edit net after
 StandsAfterEdit before edit (Err cause) after = after ≡ before
 
 -- how a session stands after what a line states: an edit may change it, and no other line does
@@ -163,10 +167,9 @@ session_machine = record {
 }
 
 -- ---- the command
--- the session of a network, as it is opened: no edit was made
-pub record OpensOn (net : Plan) (standing : Standing) : Type 0 where
-  pub opened : IsOpenedOn net standing.session
-  pub unreported : standing.report ≡ None
+-- the session of a network before any edit
+abbrev pub OpensOn : Plan → Standing → Type 0
+OpensOn net standing = standing ≡ record { first = net; edits = []; net = net }
 
 -- A session of the network of the plan is opened, and it is put that it is ready. The form in which the plan is given decides nothing of
 -- it.

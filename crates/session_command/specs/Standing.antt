@@ -1,9 +1,10 @@
 -- How a session stands while its network is edited.
-use Rattle.std.specs.Prelude.{Option}
-use Rattle.plan_session.specs.Sessions.{State}
-use Rattle.plan_session.specs.declared.answers.Report.{Report}
+use Rattle.std.specs.Prelude.{List}
+use Rattle.net_model.specs.Network.{Plan}
+use Rattle.net_model.specs.declared.edit.Edit.{Edit}
 
--- the session of the network as it stands, and the numbers of the last accepted edit
+-- the network as it was first, the edits that were accepted since, in their order, and the network as it stands
 pub record Standing : Type 0 where
-  pub session : State
-  pub report : Option Report
+  pub first : Plan
+  pub edits : List Edit
+  pub net : Plan

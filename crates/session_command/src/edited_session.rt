@@ -1,13 +1,17 @@
 //! The phase of `session` in which its network is edited.
 
-ghost use Rattle.std.specs.Prelude.{◌≡◌, [], true, false, IfOk, OnOk};
-ghost use Rattle.net_model.specs.ShownForm.{shown_form};
-ghost use Rattle.strategy_model.specs.Control.{IsControllable};
-ghost use Rattle.dispatch_net.specs.OfClosure.{IsDispatchOfClosure};
+ghost use Rattle.std.specs.Prelude.{◌≡◌, [], ◌∷◌, ◌++◌, Ok, IfOk, OnOk};
+ghost use Rattle.net_model.specs.EditedNetwork.{edited};
+ghost use Rattle.net_model.specs.Network.{IsPlan};
 ghost use Rattle.edit_script.specs.declared.step.Step.TheVariants as step;
+ghost use Rattle.session_command.specs.EditHistory.{IsDispatched, IsVerdict};
 ghost use Rattle.session_command.specs.Sessions.{net_of, IsQuestion, OpensOn, SaysProof, SaysStep};
 ghost use Rattle.session_command.specs.Sessions.{SaysTable, StandsAfter};
 
+use crate::decided_network::{
+    certificate, dispatch_if_controllable, dispatch_of_closure, is_controllable,
+};
+use crate::edit_history::{History, with_accepted, with_report};
 use crate::session_answers::{push_refused, push_report, push_table};
 use cert_format::print_certificate;
 use command_contracts::WorkerCount;
@@ -15,48 +19,50 @@ use command_engine::{Answer, Word};
 use common_answers::push_verdict;
 use dispatch_net::Dispatch;
 use edit_script::Step;
-use net_model::{Edit, Network};
-use parallel_rounds::NoGate;
+use net_model::{Edit, EditFault, Network};
 use plan_format::print_plan;
-use plan_session::{OpenSession, Report};
 use std::alloc::{AllocError, Global};
 use std::marker::Model;
 use std::thread::Threads;
+use strategy_model::laws::shown::law_controllable_is_shown;
 
-/// A session while its network is edited: the plan under edits, and the numbers of the last
-/// accepted one.
+/// A session while its network is edited: the network as it stands, its verdict if that was asked
+/// for since the last accepted edit, and the accepted edits, if there are any. No derivations are
+/// made but for its report.
 #[derive(Drop)]
 pub struct Editing {
-    session: OpenSession,
-    report: Option<Report>,
+    net: Network,
+    verdict: Option<bool>,
+    workers: WorkerCount,
+    history: Option<History>,
 }
 
 impl Model for Editing {
+    ghost use Rattle.session_command.specs.EditHistory.{edits_in, first_in, IsKept};
     ghost use Rattle.session_command.specs.Standing.{Standing};
-    ghost use Rattle.session_command.specs.StandingCode.{standing_code};
 
     ghost Value = { Standing };
 
-    ghost coded = { standing_code };
+    ghost view = { λ editing. record {
+      first = first_in editing.net editing.history;
+      edits = edits_in editing.history;
+      net = editing.net;
+    } };
 
-    ghost view = { λ editing. record { session = editing.session.state; report = editing.report } };
+    ghost invariant = { λ editing. IsKept editing.net editing.verdict editing.history };
 }
 
 impl Editing {
-    /// Opens a session of a network. `AllocError` comes only for want of memory.
-    pub(crate) fn open<R: Threads + Sync>(
-        rt: &R,
-        alloc: Global,
-        net: Network,
-        workers: &WorkerCount,
-    ) -> Result<Editing, AllocError>
-        ensures { IfOk result (OpensOn net) }
+    /// The session of a network before any edit.
+    pub(crate) fn of(net: Network, workers: WorkerCount) -> Editing
+        ensures { OpensOn net result }
     {
-        let session = workers.open(rt, alloc, net)?;
-        Ok(Editing {
-            session,
-            report: None,
-        })
+        Editing {
+            net,
+            verdict: None,
+            workers,
+            history: None,
+        }
     }
 
     /// Edits the network, and puts whether the edit is accepted; a refused one changes nothing.
@@ -72,25 +78,82 @@ impl Editing {
         ensures says { IfOk result (λ after. SaysStep self (step.Edit edit.now) answer.new.text) }
         ensures stands { IfOk result (StandsAfter self (step.Edit edit.now)) }
     {
-        let Editing { session, report } = self;
-        let (session, followed) = session.apply(rt, alloc, edit, &NoGate)?;
-        match followed {
-            Ok(report) => {
+        match self.net.apply(alloc, edit) {
+            Ok(net) => {
                 answer.push_line(&[Word::Text("ok")])?;
-                let report = Some(report);
-                Ok(Editing { session, report })
+                self.accept(rt, alloc, edit, net)
             }
+            Err(EditFault::OutOfMemory) => Err(AllocError),
             Err(cause) => {
-                push_refused(answer, session.network(), cause)?;
-                Ok(Editing { session, report })
+                push_refused(answer, &self.net, cause)?;
+                Ok(self)
             }
         }
+    }
+
+    /// The session after an accepted edit, which makes this network.
+    fn accept<R: Threads + Sync>(
+        self,
+        rt: &R,
+        alloc: Global,
+        edit: &Edit,
+        net: Network,
+    ) -> Result<Editing, AllocError>
+        requires { edited self.net edit.now ≡ Ok net }
+        ensures { IfOk result (λ after. after ≡ record {
+          first = self.first;
+          edits = self.edits ++ edit.now ∷ [];
+          net = net;
+        }) }
+    {
+        let Editing {
+            net: before,
+            workers,
+            history,
+            ..
+        } = self;
+        let history = with_accepted(rt, alloc, before, history, &workers, edit)?;
+        let verdict = None;
+        Ok(Editing {
+            net,
+            verdict,
+            workers,
+            history: Some(history),
+        })
+    }
+
+    /// Puts the numbers of the last accepted edit, or that there was none. `AllocError` comes only
+    /// for want of memory.
+    pub(crate) fn report<R: Threads + Sync>(
+        self,
+        rt: &R,
+        alloc: Global,
+        answer: &mut Answer,
+    ) -> Result<Editing, AllocError>
+        requires { answer.old.text ≡ [] }
+        ensures says { IfOk result (λ after. SaysStep self step.Report answer.new.text) }
+        ensures same { IfOk result (λ after. after ≡ self) }
+    {
+        let Editing {
+            net,
+            verdict,
+            workers,
+            history,
+        } = self;
+        let (history, report) = with_report(rt, alloc, history, &workers)?;
+        push_report(answer, report)?;
+        Ok(Editing {
+            net,
+            verdict,
+            workers,
+            history,
+        })
     }
 
     /// Puts the answer to a question about the network as it stands. `AllocError` comes only for
     /// want of memory.
     pub(crate) fn in_steps<R: Threads + Sync>(
-        &self,
+        &mut self,
         rt: &R,
         alloc: Global,
         answer: &mut Answer,
@@ -98,67 +161,92 @@ impl Editing {
     ) -> Result<(), AllocError>
         requires empty { answer.old.text ≡ [] }
         requires question { IsQuestion question }
-        ensures { OnOk result (SaysStep self.now question answer.new.text) }
+        ensures same { self.new ≡ self.old }
+        ensures says { OnOk result (SaysStep self.old question answer.new.text) }
     {
         match question {
             Step::Blank => Ok(()),
-            Step::Verdict => push_verdict(answer, self.is_controllable()),
+            Step::Verdict => {
+                let yes = self.is_controllable(rt, alloc)?;
+                push_verdict(answer, yes)
+            }
             Step::Proof => self.push_proof(rt, alloc, answer),
-            Step::Table => self.push_table(alloc, answer),
+            Step::Table => self.push_table(rt, alloc, answer),
             Step::Plan => {
-                let text = print_plan(alloc, self.session.network())?;
+                let text = print_plan(alloc, &self.net)?;
                 answer.push_text(text.as_slice())
             }
-            Step::Report => push_report(answer, self.report),
-            Step::Edit(_) | Step::Go | Step::End => unreachable!(),
+            Step::Edit(_) | Step::Report | Step::Go | Step::End => unreachable!(),
         }
     }
 
-    /// Whether the network as it stands is controllable.
-    pub(crate) fn is_controllable(&self) -> bool
-        ensures yes { result ≡ true → IsControllable (net_of self.now) }
-        ensures no { result ≡ false → ¬ IsControllable (net_of self.now) }
+    /// The shown form of the network as it stands with its dispatchable network, exactly if some
+    /// strategy controls it. `AllocError` comes only for want of memory.
+    pub(crate) fn dispatch<R: Threads + Sync>(
+        &self,
+        rt: &R,
+        alloc: Global,
+    ) -> Result<Option<(Network, Dispatch)>, AllocError>
+        ensures { IfOk result (IsDispatched (net_of self.now)) }
     {
-        self.session.is_controllable()
+        match self.verdict {
+            Some(false) => Ok(None),
+            _ => dispatch_if_controllable(rt, alloc, &self.net, self.workers.number()),
+        }
     }
 
-    /// The shown form of the network as it stands, which is controllable, with the dispatchable
-    /// network of its closure. `AllocError` comes only for want of memory.
-    pub(crate) fn into_dispatched(self, alloc: Global) -> Result<(Network, Dispatch), AllocError>
-        requires { IsControllable (net_of self) }
-        ensures { IfOk result (λ dispatched. (dispatched.0 ≡ shown_form (net_of self))
-            × IsDispatchOfClosure dispatched.0 dispatched.1) }
+    /// Whether the network as it stands is controllable. It is decided once after an accepted edit.
+    fn is_controllable<R: Threads + Sync>(
+        &mut self,
+        rt: &R,
+        alloc: Global,
+    ) -> Result<bool, AllocError>
+        ensures same { self.new ≡ self.old }
+        ensures verdict { IfOk result (IsVerdict (net_of self.old)) }
     {
-        let Editing { session, .. } = self;
-        let dispatch = session.dispatch(alloc)?;
-        let (_, shown) = session.into_networks();
-        Ok((shown, dispatch))
+        if let Some(yes) = self.verdict {
+            return Ok(yes);
+        }
+        let yes = is_controllable(rt, alloc, &self.net, self.workers.number())?;
+        self.verdict = Some(yes);
+        Ok(yes)
     }
 
     /// Puts the certificate that decides the shown form of the network as it stands.
     fn push_proof<R: Threads + Sync>(
-        &self,
+        &mut self,
         rt: &R,
         alloc: Global,
         answer: &mut Answer,
     ) -> Result<(), AllocError>
         requires { answer.old.text ≡ [] }
-        ensures { OnOk result (SaysProof (net_of self.now) answer.new.text) }
+        ensures same { self.new ≡ self.old }
+        ensures says { OnOk result (SaysProof (net_of self.old) answer.new.text) }
     {
-        let certificate = self.session.certificate(rt, alloc)?;
+        let yes = self.is_controllable(rt, alloc)?;
+        let certificate = certificate(rt, alloc, &self.net, yes, self.workers.number())?;
         let text = print_certificate(alloc, &certificate)?;
         answer.push_text(text.as_slice())
     }
 
     /// Puts by what each point is executed.
-    fn push_table(&self, alloc: Global, answer: &mut Answer) -> Result<(), AllocError>
+    fn push_table<R: Threads + Sync>(
+        &mut self,
+        rt: &R,
+        alloc: Global,
+        answer: &mut Answer,
+    ) -> Result<(), AllocError>
         requires { answer.old.text ≡ [] }
-        ensures { OnOk result (SaysTable (net_of self.now) answer.new.text) }
+        ensures same { self.new ≡ self.old }
+        ensures says { OnOk result (SaysTable (net_of self.old) answer.new.text) }
     {
-        if !self.is_controllable() {
+        if !self.is_controllable(rt, alloc)? {
             return push_verdict(answer, false);
         }
-        let dispatch = self.session.dispatch(alloc)?;
-        push_table(answer, self.session.shown(), &dispatch)
+        law_controllable_is_shown();
+        self.net.sound();
+        let shown = self.net.shown(alloc)?;
+        let dispatch = dispatch_of_closure(rt, alloc, &shown, self.workers.number())?;
+        push_table(answer, &shown, &dispatch)
     }
 }

@@ -2,6 +2,9 @@
 //! the execution of the network as it stands.
 #![tactic(auto)]
 
+mod decided_network;
+mod derivations;
+mod edit_history;
 mod edited_session;
 mod laws;
 mod session;

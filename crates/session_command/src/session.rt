@@ -31,9 +31,11 @@ use std::thread::Threads;
 /// `refused` and the cause, and then nothing changed; and each question. It goes on until the line
 /// `end`, at which it ends with 0, or until `go` if some strategy controls the network: from then
 /// on the network is executed over lines of events, as `run` does. `report` says how many
-/// derivations the last accepted edit kept and withdrew, and how many rounds were made then. It
-/// never ends with 1. For want of memory, at 8, it has put answers to whole lines, none of which
-/// began an execution, or nothing. What it promises is `SessionPromise`, and at 8 `SaysWhole`.
+/// derivations the last accepted edit kept and withdrew, and how many rounds were made then, in a
+/// session that keeps derivations, opened on the network of the plan: it is asked for them only
+/// then, and follows the accepted edits. It never ends with 1. For want of memory, at 8, it has
+/// put answers to whole lines, none of which began an execution, or nothing. What it promises is
+/// `SessionPromise`, and at 8 `SaysWhole`.
 #[derive(Drop)]
 pub struct SessionCommand {
     query: FormAndWorkers,
@@ -67,12 +69,14 @@ impl Begin<PlanNetwork> for SessionCommand {
 
     fn begin<R: Threads + Sync>(
         self,
-        rt: &R,
-        alloc: Global,
+        _rt: &R,
+        _alloc: Global,
         answer: &mut Answer,
         value: PlanNetwork,
     ) -> Result<Flow<InSession>, AllocError> {
-        let editing = Editing::open(rt, alloc, value.into_network(), &self.query.workers)?;
+        let SessionCommand { query } = self;
+        let FormAndWorkers { workers, .. } = query;
+        let editing = Editing::of(value.into_network(), workers);
         answer.push_line(&[Word::Text("ready")])?;
         Ok(Flow::Continue(InSession::Editing(editing)))
     }
@@ -178,12 +182,17 @@ fn answer_step<R: Threads + Sync>(
 {
     match step {
         Step::End => Ok(Flow::Finish(End::Done)),
-        Step::Go => go(alloc, answer, state),
+        Step::Go => go(rt, alloc, answer, state),
         Step::Edit(edit) => {
             let state = state.edit(rt, alloc, answer, &edit)?;
             Ok(Flow::Continue(InSession::Editing(state)))
         }
-        Step::Blank | Step::Verdict | Step::Proof | Step::Table | Step::Plan | Step::Report => {
+        Step::Report => {
+            let state = state.report(rt, alloc, answer)?;
+            Ok(Flow::Continue(InSession::Editing(state)))
+        }
+        Step::Blank | Step::Verdict | Step::Proof | Step::Table | Step::Plan => {
+            let mut state = state;
             state.in_steps(rt, alloc, answer, step)?;
             Ok(Flow::Continue(InSession::Editing(state)))
         }
@@ -192,19 +201,24 @@ fn answer_step<R: Threads + Sync>(
 
 /// Begins the execution of the shown form of the network as it stands, if that is controllable;
 /// else puts that it is not.
-fn go(alloc: Global, answer: &mut Answer, state: Editing) -> Result<Flow<InSession>, AllocError>
+fn go<R: Threads + Sync>(
+    rt: &R,
+    alloc: Global,
+    answer: &mut Answer,
+    state: Editing,
+) -> Result<Flow<InSession>, AllocError>
     requires { answer.old.text ≡ [] }
     ensures answers { IfOk result (AnswersStep state step.Go answer.new.text) }
     ensures spare_capacity { IfOk result
         (λ flow. HasCapacity session_machine flow answer.new.capacity) }
 {
-    if !state.is_controllable() {
-        push_verdict(answer, false)?;
-        return Ok(Flow::Continue(InSession::Editing(state)));
+    match state.dispatch(rt, alloc)? {
+        Some((shown, dispatch)) => Ok(executing(begin_dispatched(alloc, answer, shown, dispatch)?)),
+        None => {
+            push_verdict(answer, false)?;
+            Ok(Flow::Continue(InSession::Editing(state)))
+        }
     }
-    let (shown, dispatch) = state.into_dispatched(alloc)?;
-    shown.sound();
-    Ok(executing(begin_dispatched(alloc, answer, shown, dispatch)?))
 }
 
 /// A session goes on as the execution of its network does.

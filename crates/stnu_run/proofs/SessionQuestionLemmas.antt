@@ -11,7 +11,6 @@ use Rattle.plan_port.specs.Lines.{Comes, coming}
 use Rattle.edit_script.specs.EditText.{IsEditLine}
 use Rattle.edit_script.specs.declared.step.Step.{Step}
 use Rattle.edit_script.specs.declared.step.Step.TheVariants as step
-use Rattle.plan_session.specs.Sessions.{State}
 use Rattle.command_engine.specs.Inputs.{DeclaresBy, capacity_after, texts}
 use Rattle.command_engine.specs.Limits.{most_input}
 use Rattle.command_engine.proofs.InputLemmas.{capacity_both, texts_both}
@@ -137,7 +136,7 @@ module _ (asked : Step) (on_after : (net : Plan) → StillEdits net asked) (unch
     answers_last put (said, more, says, all) =
         let so = next.so_far in
         let parts = split says.opened steps says.said says.last says.says in
-        let opened : net_of says.opened ≡ first = ap (λ (s : State). s.net) says.opens.opened.2 in
+        let opened : net_of says.opened ≡ first = ap net_of says.opens in
         let stands = stands_so says.opened first (texts so.edits) steps parts.before parts.there net opened parts.says so.in_steps in
         let declared = so.declares.declared in
         let first_sound = input_sound form (texts (so.plan ++ (so.edits ++ so.rest))) first (texts (so.edits ++ so.rest)) declared in

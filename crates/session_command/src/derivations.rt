@@ -1,0 +1,131 @@
+//! The derivations of a session, as they follow its accepted edits when the session is asked for its
+//! report.
+
+ghost use Rattle.std.specs.Prelude.{◌≡◌, [], ◌∷◌, ◌++◌, IfOk};
+ghost use Rattle.session_command.specs.Followed.{AreAccepted, IsReport};
+
+use command_contracts::WorkerCount;
+use net_model::{Edit, Network};
+use parallel_rounds::NoGate;
+use plan_session::{OpenSession, Report};
+use std::alloc::{AllocError, Global};
+use std::marker::Model;
+use std::snapshot::Snapshot;
+use std::thread::Threads;
+
+/// What was derived of the network as it was first.
+#[derive(Drop)]
+pub(crate) enum Derived {
+    /// Nothing: no session was opened on it.
+    Nothing(Network),
+    /// A session was opened on it, and has followed edits.
+    Followed(Derivations),
+}
+
+/// A session that keeps derivations, opened on a network, and the report of the last edit that it
+/// followed. Contracts see that network, the edits that were followed, and the report. The network
+/// as it was first and the edits are known to clauses alone: no bytes of them are kept.
+#[derive(Drop)]
+pub(crate) struct Derivations {
+    session: OpenSession,
+    report: Option<Report>,
+    first: Snapshot<Network>,
+    followed: Vec<Snapshot<Edit>>,
+}
+
+impl Model for Derivations {
+    ghost use Rattle.std.specs.Prelude.{map};
+    ghost use Rattle.session_command.specs.Followed.{Followed, HasFollowed};
+
+    ghost Value = { Followed };
+
+    ghost view = { λ derivations. record {
+      first = derivations.first.value;
+      edits = map (λ edit. edit.value) derivations.followed.items;
+      report = derivations.report;
+    } };
+
+    ghost invariant = { λ derivations. HasFollowed derivations.first.value
+        (map (λ edit. edit.value) derivations.followed.items) derivations.session.state
+        derivations.report };
+}
+
+impl Derivations {
+    /// Those of a network before any edit. `AllocError` comes only for want of memory.
+    pub(crate) fn open<R: Threads + Sync>(
+        rt: &R,
+        alloc: Global,
+        net: Network,
+        workers: &WorkerCount,
+    ) -> Result<Derivations, AllocError>
+        ensures first { IfOk result (λ derivations. derivations.first ≡ net) }
+        ensures edits { IfOk result (λ derivations. derivations.edits ≡ []) }
+    {
+        let first = Snapshot::of(&net);
+        let session = workers.open(rt, alloc, net)?;
+        Ok(Derivations {
+            session,
+            report: None,
+            first,
+            followed: Vec::new(alloc),
+        })
+    }
+
+    /// Follows accepted edits, one after another. `AllocError` comes only for want of memory.
+    pub(crate) fn follow_all<R: Threads + Sync>(
+        self,
+        rt: &R,
+        alloc: Global,
+        edits: &[Edit],
+    ) -> Result<Derivations, AllocError>
+        requires accepted { AreAccepted self.first (self.edits ++ edits.now) }
+        ensures first { IfOk result (λ derivations. derivations.first ≡ self.first) }
+        ensures edits { IfOk result (λ derivations. derivations.edits ≡ self.edits ++ edits.now) }
+    {
+        let mut derivations = self;
+        for edit in edits {
+            derivations = derivations.follow(rt, alloc, edit)?;
+        }
+        Ok(derivations)
+    }
+
+    /// The report of the last edit that was followed, if there was one.
+    pub(crate) fn report(&self) -> Option<Report>
+        ensures { IsReport self.now.first self.now.edits result }
+    {
+        self.report
+    }
+
+    /// Follows one accepted edit.
+    fn follow<R: Threads + Sync>(
+        self,
+        rt: &R,
+        alloc: Global,
+        edit: &Edit,
+    ) -> Result<Derivations, AllocError>
+        requires accepted { AreAccepted self.first (self.edits ++ edit.now ∷ []) }
+        ensures first { IfOk result (λ derivations. derivations.first ≡ self.first) }
+        ensures edits { IfOk result (λ derivations. derivations.edits ≡ self.edits
+            ++ edit.now ∷ []) }
+    {
+        let Derivations {
+            session,
+            first,
+            mut followed,
+            ..
+        } = self;
+        let (session, answer) = session.apply(rt, alloc, edit, &NoGate)?;
+        match answer {
+            Ok(report) => {
+                followed.push(Snapshot::of(edit))?;
+                Ok(Derivations {
+                    session,
+                    report: Some(report),
+                    first,
+                    followed,
+                })
+            }
+            Err(_) => unreachable!(),
+        }
+    }
+}

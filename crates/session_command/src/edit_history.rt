@@ -1,0 +1,182 @@
+//! The accepted edits of a session, from which `report` is answered.
+
+ghost use Rattle.std.specs.Prelude.{◌≡◌, [], ◌∷◌, ◌++◌, IfOk};
+ghost use Rattle.session_command.specs.EditHistory.{edits_in, first_in};
+ghost use Rattle.session_command.specs.EditHistory.{AreKeptAccepted, IsReportIn};
+ghost use Rattle.session_command.specs.Followed.{AreAccepted, IsReport};
+
+use crate::derivations::{Derivations, Derived};
+use command_contracts::WorkerCount;
+use net_model::{Edit, Network};
+use plan_session::Report;
+use std::alloc::{AllocError, Global};
+use std::marker::Model;
+use std::thread::Threads;
+
+/// How many accepted edits are noted at most before derivations follow them. So many take some
+/// 120 MB.
+const MOST_NOTED: usize = 1_000_000;
+
+/// The edits of a network that were accepted: those that derivations have followed, and those
+/// that are noted, so that derivations are made only if the session is asked for its report.
+/// Contracts see the network as it was first, and the edits in their order.
+#[derive(Drop)]
+pub(crate) struct History {
+    derived: Derived,
+    noted: Vec<Edit>,
+}
+
+impl Model for History {
+    ghost use Rattle.std.specs.Prelude.{◌++◌};
+    ghost use Rattle.session_command.specs.EditHistory.{first_of, followed_by};
+    ghost use Rattle.session_command.specs.Followed.{Past};
+
+    ghost Value = { Past };
+
+    ghost view = { λ history. record {
+      first = first_of history.derived;
+      edits = followed_by history.derived ++ history.noted.items;
+    } };
+}
+
+impl History {
+    /// That of a network of which one edit was accepted. `AllocError` comes only for want of
+    /// memory.
+    pub(crate) fn of(alloc: Global, first: Network, edit: &Edit) -> Result<History, AllocError>
+        ensures { IfOk result (λ history. history ≡ record {
+          first = first;
+          edits = edit.now ∷ [];
+        }) }
+    {
+        let mut noted = Vec::new(alloc);
+        noted.push(*edit)?;
+        Ok(History {
+            derived: Derived::Nothing(first),
+            noted,
+        })
+    }
+
+    /// Notes one more accepted edit; if so many are noted already, derivations follow those first.
+    /// `AllocError` comes only for want of memory.
+    pub(crate) fn note<R: Threads + Sync>(
+        self,
+        rt: &R,
+        alloc: Global,
+        workers: &WorkerCount,
+        edit: &Edit,
+    ) -> Result<History, AllocError>
+        requires accepted { AreAccepted self.first self.edits }
+        ensures { IfOk result (λ history. history ≡ record {
+          first = self.first;
+          edits = self.edits ++ edit.now ∷ [];
+        }) }
+    {
+        if self.noted.len() < MOST_NOTED {
+            self.with_edit(edit)
+        } else {
+            let derivations = self.derive(rt, alloc, workers)?;
+            History::after(alloc, derivations).with_edit(edit)
+        }
+    }
+
+    /// The report of the last accepted edit, if there is one: derivations follow the noted edits.
+    /// `AllocError` comes only for want of memory.
+    pub(crate) fn report<R: Threads + Sync>(
+        self,
+        rt: &R,
+        alloc: Global,
+        workers: &WorkerCount,
+    ) -> Result<(History, Option<Report>), AllocError>
+        requires accepted { AreAccepted self.first self.edits }
+        ensures same { IfOk result (λ answer. answer.0 ≡ self) }
+        ensures report { IfOk result (λ answer. IsReport self.first self.edits answer.1) }
+    {
+        let derivations = self.derive(rt, alloc, workers)?;
+        let report = derivations.report();
+        Ok((History::after(alloc, derivations), report))
+    }
+
+    /// Derivations that have followed each edit.
+    fn derive<R: Threads + Sync>(
+        self,
+        rt: &R,
+        alloc: Global,
+        workers: &WorkerCount,
+    ) -> Result<Derivations, AllocError>
+        requires accepted { AreAccepted self.first self.edits }
+        ensures first { IfOk result (λ derivations. derivations.first ≡ self.first) }
+        ensures edits { IfOk result (λ derivations. derivations.edits ≡ self.edits) }
+    {
+        let History { derived, noted } = self;
+        match derived {
+            Derived::Nothing(net) => {
+                let derivations = Derivations::open(rt, alloc, net, workers)?;
+                derivations.follow_all(rt, alloc, noted.as_slice())
+            }
+            Derived::Followed(derivations) => derivations.follow_all(rt, alloc, noted.as_slice()),
+        }
+    }
+
+    /// The history that derivations have followed.
+    fn after(alloc: Global, derivations: Derivations) -> History
+        ensures { result ≡ record { first = derivations.first; edits = derivations.edits } }
+    {
+        History {
+            derived: Derived::Followed(derivations),
+            noted: Vec::new(alloc),
+        }
+    }
+
+    /// Notes one more edit.
+    fn with_edit(mut self, edit: &Edit) -> Result<History, AllocError>
+        ensures { IfOk result (λ history. history ≡ record {
+          first = self.first;
+          edits = self.edits ++ edit.now ∷ [];
+        }) }
+    {
+        self.noted.push(*edit)?;
+        Ok(self)
+    }
+}
+
+/// What is kept of accepted edits after one more, which was accepted of this network: if nothing was
+/// kept before, the network is as it was first. `AllocError` comes only for want of memory.
+pub(crate) fn with_accepted<R: Threads + Sync>(
+    rt: &R,
+    alloc: Global,
+    net: Network,
+    history: Option<History>,
+    workers: &WorkerCount,
+    edit: &Edit,
+) -> Result<History, AllocError>
+    requires accepted { AreKeptAccepted history }
+    ensures { IfOk result (λ after. after ≡ record {
+      first = first_in net history;
+      edits = edits_in history ++ edit.now ∷ [];
+    }) }
+{
+    match history {
+        None => History::of(alloc, net, edit),
+        Some(history) => history.note(rt, alloc, workers, edit),
+    }
+}
+
+/// What is kept of accepted edits, and the report. `AllocError` comes only for want of memory.
+pub(crate) fn with_report<R: Threads + Sync>(
+    rt: &R,
+    alloc: Global,
+    history: Option<History>,
+    workers: &WorkerCount,
+) -> Result<(Option<History>, Option<Report>), AllocError>
+    requires accepted { AreKeptAccepted history }
+    ensures same { IfOk result (λ answer. answer.0 ≡ history) }
+    ensures report { IfOk result (λ answer. IsReportIn history answer.1) }
+{
+    match history {
+        None => Ok((None, None)),
+        Some(history) => {
+            let (history, report) = history.report(rt, alloc, workers)?;
+            Ok((Some(history), report))
+        }
+    }
+}
