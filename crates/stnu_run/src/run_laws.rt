@@ -28,7 +28,9 @@ use execution_model::laws::{
     law_feeds_execute_earliest, law_streams_are_executed, law_streams_are_shown,
 };
 use plan_session::laws::law_broken_sessions_say_so;
-use run_command::{law_feeders_put_the_lines_in_order, law_run_is_read_exactly};
+use run_command::{
+    law_feeders_put_the_lines_in_order, law_orders_decide_nothing, law_run_is_read_exactly,
+};
 use sensor_desk::laws::law_what_is_noted_stands;
 use shared_table_laws::laws::{
     law_nodes_come_by_their_rules, law_rounds_that_close_settle,
@@ -85,5 +87,6 @@ fn law_engine_is_lawful()
     law_feeds_execute_earliest();
     law_streams_are_shown();
     law_what_is_noted_stands();
+    law_orders_decide_nothing();
     law_broken_sessions_say_so();
 }

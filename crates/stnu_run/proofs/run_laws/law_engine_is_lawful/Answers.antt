@@ -14,6 +14,7 @@ returns c = record {
     earliest = c.law_feeds_execute_earliest.ensures;
     shown = c.law_streams_are_shown.ensures;
     noted = c.law_what_is_noted_stands.ensures;
+    orders = c.law_orders_decide_nothing.ensures;
   };
   broken = c.law_broken_sessions_say_so.ensures;
 }
