@@ -282,7 +282,7 @@ impl Held {
         let Some(part) = kept_part(alloc, net, &part, marks.as_slice())? else {
             return Ok(None);
         };
-        let due = part.list.dag().len().saturating_mul(3);
+        let due = part.list.dag().len().saturating_mul(2);
         Ok(Some(Held {
             part,
             count,
