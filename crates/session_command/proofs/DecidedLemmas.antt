@@ -1,5 +1,5 @@
 -- What decides a network as it stands.
-use Rattle.std.proofs.Common.{◌≡◌, true, false, Option, Some, None, refl, sym, ap, ◌∙◌, subst}
+use Rattle.std.proofs.Common.{◌≡◌, true, false, Option, Some, None, refl, ap, ◌∙◌, subst}
 use Rattle.net_model.specs.Network.{Plan, IsPlan}
 use Rattle.net_model.specs.ShownForm.{shown_form}
 use Rattle.net_model.specs.ShownLaws.{ShownWithoutDelayIsSame}
@@ -12,7 +12,7 @@ use Rattle.refutation_certificates.specs.Refutations.{Refutes}
 use Rattle.cert_format.specs.declared.certificate.Certificate.{Certificate}
 use Rattle.verdicts.specs.Decisions.{IsDecidedBy, IsOrderedForwardTable}
 use Rattle.verdicts.proofs.VerdictLemmas.{shown_decides, shown_excludes}
-use Rattle.session_command.specs.EditHistory.{IsDispatched, IsVerdict}
+use Rattle.session_command.specs.EditHistory.{IsVerdict}
 
 pub verdict_yes : (net : Plan) → IsControllable net → IsVerdict net true
 verdict_yes net controls = record { yes = λ so. controls; no = λ so. absurd cc }

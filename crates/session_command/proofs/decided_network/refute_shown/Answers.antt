@@ -1,6 +1,5 @@
-use Rattle.std.proofs.Common.{sym, subst}
+use Rattle.std.proofs.Common.{subst}
 use Rattle.std.proofs.lemmas.Result.{IfOk-weaker}
-use Rattle.net_model.specs.Network.{Plan}
 use Rattle.net_model.specs.ShownForm.{shown_form}
 use Rattle.strategy_model.specs.Control.{IsControllable}
 use Rattle.refutation_certificates.specs.Refutations.{Refutes}

@@ -1,4 +1,4 @@
-use Rattle.std.proofs.Common.{◌≡◌, ◌++◌, [], ◌∷◌, Result, ap, sym, ◌∙◌, subst}
+use Rattle.std.proofs.Common.{◌++◌, [], ◌∷◌, Result, ap, sym, ◌∙◌, subst}
 use Rattle.net_model.specs.declared.edit.EditFault.{EditFault}
 use Rattle.plan_session.specs.OpenSessions.{FollowsOrRefuses}
 use Rattle.plan_session.specs.Sessions.{Accepts}

@@ -1,7 +1,6 @@
 use Rattle.std.proofs.Common.{◌≡◌, ◌++◌, ℕ, List, ap, sym, ◌∙◌, subst}
 use Rattle.std.proofs.lemmas.Result.{on_ok_weaker}
 use Rattle.net_model.specs.Network.{Plan}
-use Rattle.net_model.specs.ShownForm.{shown_form}
 use Rattle.strategy_model.specs.Control.{IsControllable}
 use Rattle.dispatch_net.specs.OfClosure.{IsDispatchOfClosure}
 use Rattle.session_command.specs.SessionAnswers.{table_text}
