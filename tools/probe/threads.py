@@ -125,10 +125,11 @@ CALLS = [
     # Of the plan with the least number too; and the number below it is refuted by a round.
     Call("deadline and refutation", ["deadline", "first", "p1"], [*plan()], 0, 3, TESTERS, 1),
     Call("deadline of a plan that cannot be kept", ["deadline", "first", "p1"], [*plan(BROKEN)], 1, 1, MOST),
-    # A round when it is opened, and one after each edit.
-    Call("session", ["session"], [*plan(), *EDITS, "verdict", "end"], 0, 3, MOST),
-    # Two rounds when it is opened.
-    Call("session of chains", ["session"], [*chains(), "verdict", "end"], 0, 2, MOST),
+    # The test of the table of which the verdict is told. For the report a round when a session is
+    # opened, and one after each edit.
+    Call("session", ["session"], [*plan(), *EDITS, "verdict", "report", "end"], 0, 1, TESTERS, 3),
+    # Two rounds when it is opened for the report, and one with all rows after the edit.
+    Call("session of chains", ["session"], [*chains(), "set bound ab0 -2", "report", "end"], 0, 3, MOST),
     # Of so small a network the rounds after the first are one worker's.
     Call("forge", ["forge", "7", "9"], [], 0, 1, MOST),
     Call("run --feeders", ["run"], TWO_LINKS, 0, 2, MOST, option="--feeders"),
