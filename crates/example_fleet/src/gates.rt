@@ -12,10 +12,11 @@ use std::thread::Threads;
 /// How often the gate looks, at most, whether the second plan has begun.
 const TURNS: u64 = 500_000_000;
 
-/// Blocks the first plan until the second has begun.
+/// Blocks the first plan until the second has begun, and adds up the places that it is told.
 #[derive(Drop)]
 struct Held {
     started_count: AtomicU32,
+    places: AtomicU32,
     failed: AtomicBool,
 }
 
@@ -23,6 +24,7 @@ impl Held {
     fn new() -> Held {
         Held {
             started_count: AtomicU32::new(0),
+            places: AtomicU32::new(0),
             failed: AtomicBool::new(false),
         }
     }
@@ -37,14 +39,17 @@ impl Held {
         false
     }
 
-    /// Whether the first plan was not released before, and both have begun.
+    /// Whether the first plan was not released before, and both have begun, at the places 0 and 1.
     fn was_met(&self) -> bool {
-        !self.failed.load(Ordering::SeqCst) && self.started_count.load(Ordering::SeqCst) == 2
+        !self.failed.load(Ordering::SeqCst)
+            && self.started_count.load(Ordering::SeqCst) == 2
+            && self.places.load(Ordering::SeqCst) == 1
     }
 }
 
 impl Gate for Held {
     fn before(&self, place: u32) {
+        self.places.fetch_add(place, Ordering::SeqCst);
         self.started_count.fetch_add(1, Ordering::SeqCst);
         if place == 0 && !self.both_begin() {
             self.failed.store(true, Ordering::SeqCst);
