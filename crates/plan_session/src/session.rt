@@ -20,6 +20,7 @@ use closure_certificates::laws::law_certificates_are_one;
 use dispatch_net::Dispatch;
 use edit_laws::laws::{law_edits_withdraw_nodes, law_shown_forms_follow_edits};
 use net_model::{Edit, EditFault, Network};
+use network_refutation::refute;
 use parallel_rounds::{Gate, NoGate};
 use std::alloc::{AllocError, Global};
 use std::marker::Model;
@@ -268,10 +269,7 @@ impl Session {
     {
         match &self.opened {
             Some(opened) if self.unedited => opened.refutation(alloc, &self.shown),
-            _ => {
-                let opened = Propagated::of(rt, alloc, &self.shown, self.workers, &NoGate)?;
-                opened.refutation(alloc, &self.shown)
-            }
+            _ => refute(rt, alloc, &self.shown, self.workers, &NoGate),
         }
     }
 

@@ -14,7 +14,6 @@ use closure_certificates::laws::law_table_proofs_prove;
 use closure_certificates::table_proof;
 use net_model::Network;
 use parallel_rounds::Gate;
-use plan_session::OpenSession;
 use std::alloc::{AllocError, Global};
 use std::thread::Threads;
 use strategy_model::laws::shown::{law_controllable_is_shown, law_shown_form_is_instant};
@@ -55,7 +54,8 @@ pub fn refute<R: Threads + Sync, G: Gate>(
     ensures { IfOk result (Refutes (shown_form net)) }
 {
     law_controllable_is_shown();
+    law_shown_form_is_instant();
     net.sound();
-    let session = OpenSession::open(rt, alloc, net, workers, gate)?;
-    session.certificate(rt, alloc)
+    let shown = net.shown(alloc)?;
+    network_refutation::refute(rt, alloc, &shown, workers, gate)
 }

@@ -1,4 +1,5 @@
 use Rattle.std.proofs.Common.{ap, subst, ◌∙◌}
+use Rattle.net_model.specs.Network.{Plan}
 use Rattle.net_model.specs.ShownForm.{shown_form}
 use Rattle.strategy_model.specs.Control.{IsControllable}
 use Rattle.plan_session.specs.Sessions.{SessionView}
@@ -8,6 +9,9 @@ pub refutation-requires-clause-never : goal.refutation-requires-clause-never
 refutation-requires-clause-never g c =
     λ controls. c.requires (subst IsControllable (c.self.invariant.shown_is ∙ ap (λ (session : SessionView). shown_form session.state.net) c.self.view_is) controls)
 
-pub refutation-requires-in_default-clause-never : goal.refutation-requires-in_default-clause-never
-refutation-requires-in_default-clause-never g c =
-    λ controls. c.requires (subst IsControllable (c.self.invariant.shown_is ∙ ap (λ (session : SessionView). shown_form session.state.net) c.self.view_is) controls)
+pub refute-requires-clause-never : goal.refute-requires-clause-never
+refute-requires-clause-never g c =
+    λ lifetimes lives controls. c.requires (subst IsControllable (c.self.invariant.shown_is ∙ ap (λ (session : SessionView). shown_form session.state.net) c.self.view_is) controls)
+
+pub refute-requires-clause-no_delay : goal.refute-requires-clause-no_delay
+refute-requires-clause-no_delay g c = λ lifetimes lives. ap (λ (net : Plan). net.delay) c.self.invariant.shown_is
