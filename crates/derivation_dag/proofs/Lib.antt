@@ -3,4 +3,5 @@ pub mod RestLemmas
 pub mod NumberLemmas
 pub mod PlaceLemmas
 pub mod PlainLemmas
-mod RowLemmas
+pub mod RowLemmas
+pub mod FoundLemmas

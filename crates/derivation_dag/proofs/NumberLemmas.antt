@@ -1,5 +1,5 @@
 -- The number of the node of each key, after one node more.
-use Rattle.std.proofs.Common.{◌≡◌, ◌≢◌, ◌==◌, ◌&&◌, ℕ, zero, suc, replicate, slice_index_or, ℤ, ◌≤ℤ◌, ◌<ℤ◌, Bool, true, false, List, [], ◌∷◌, ◌++◌, length, Option, Some, None, refl, ap, sym, ◌∙◌, subst, arith}
+use Rattle.std.proofs.Common.{◌≡◌, ◌≢◌, ◌==◌, ◌&&◌, ◌+◌, ℕ, zero, suc, replicate, slice_index_or, ℤ, ◌≤ℤ◌, ◌<ℤ◌, ◌<◌, Bool, true, false, List, [], ◌∷◌, ◌++◌, length, Option, Some, None, refl, ap, sym, ◌∙◌, subst, arith}
 use Rattle.std.specs.Prelude.{int_lt}
 use Rattle.std.specs.Bool.{MatchBool}
 use Rattle.std.specs.HashMap.{IsEmpty}
@@ -17,7 +17,12 @@ use Rattle.closure_model.proofs.Newest.{none_after, kept_after, new_after}
 use Rattle.derivation_dag.specs.Places.{dense_place, recorded}
 use Rattle.derivation_dag.specs.declared.key.EdgeKey.{EdgeKey}
 use Rattle.derivation_dag.specs.declared.numbers.Numbers.{Numbers}
-use Rattle.derivation_dag.specs.Numbers.{same_edge_key, edge_key, number_at, number_of, IsWithout, AreSame, NumbersNodes, IsBelowAll, HasNodeAtMost}
+use Rattle.derivation_dag.specs.declared.pruned_dag.Numbered.{Numbered}
+use Rattle.derivation_dag.specs.Pruned.{AreNumbered, IsHeld}
+use Rattle.closure_model.proofs.Nodes.{at_push, before_push}
+use Rattle.std.proofs.lemmas.List.{length_push}
+use Rattle.std.proofs.lemmas.List.Elements.{All-push, All-weaker}
+use Rattle.derivation_dag.specs.Numbers.{same_edge_key, edge_key, number_at, number_of, IsWithout, AreSame, NumbersNodes, IsBelowAll, IsBelowFirst, HasNodeAtMost}
 
 -- ---- edge keys that pass the test are the same
 both_true : (a b : Bool) → (a && b) ≡ true → (a ≡ true) × (b ≡ true)
@@ -77,6 +82,22 @@ below_or_held nodes edge id node was here b is = by b is
       less = let weight : was.node.edge.weight ≡ node.edge.weight = ap (λ (n : Node). n.edge.weight) same in no_less edge.weight was.node.edge.weight (ap (int_lt edge.weight) weight ∙ sym is');
     }
 
+-- an edge is below every node of a key that has none
+pub below_none : (nodes : List Node) (edge : Edge) → IsNewest nodes (key_of edge) None → IsBelowAll nodes edge
+below_none nodes edge none other node here of_key = absurd (none other node here of_key)
+
+-- an edge that is below the first nodes of its key is below all, if the node of its key is among those
+pub below_first : (nodes : List Node) (edge : Edge) (id : NodeId) (first : ℕ) → IsNodeOf nodes (key_of edge) id → id.0 < first → IsBelowFirst nodes first edge → IsBelowAll nodes edge
+below_first nodes edge id first was early below other m there of_key =
+    let least : was.node.edge.weight ≤ℤ m.edge.weight = was.least other m there of_key in
+    let under : edge.weight <ℤ was.node.edge.weight = below id was.node early was.here was.of_key in
+    omega (arith, ints)
+
+-- what is below all nodes of its key is below the first ones of a longer list
+pub below_all_first : (nodes longer : List Node) (edge : Edge) → ((other : NodeId) (node : Node) → other.0 < length nodes → node_at longer other ≡ Some node → node_at nodes other ≡ Some node)
+    → IsBelowAll nodes edge → IsBelowFirst longer (length nodes) edge
+below_all_first nodes longer edge same below other node early here of_key = below other node (same other node early here) of_key
+
 -- a key whose edge key passes the test beside that of another is the other one
 key_by_test : (one other : Key) → same_edge_key (edge_key one) (edge_key other) ≡ true → one ≡ other
 key_by_test one other test =
@@ -123,6 +144,19 @@ module _ (nodes : List Node) (node : Node) (numbers : Numbers) (held : NumbersNo
           otherwise : key_of node.edge ≢ key → (o : Option NodeId) → IsNewest nodes key o → IsNewest (nodes ++ node ∷ []) key o
           otherwise apart None none = none_after nodes node key apart none
           otherwise apart (Some other) was = kept_after nodes node key other was (λ of_key. absurd (apart of_key))
+
+-- ---- what is held of a list that has one node more
+module _ (whole : List Node) (held : List Numbered) (count : ℕ) (numbers : Numbers) (is : IsHeld whole held count numbers) (node : Node) where
+  pub held_more : (longer : List Node) (after : List Numbered) (next : ℕ) (later : Numbers) → longer ≡ whole ++ node ∷ [] → after ≡ held ++ record { id = record { 0 = count }; node = node } ∷ [] → next ≡ count + 1
+      → NumbersNodes (whole ++ node ∷ []) later → IsHeld longer after next later
+  held_more longer after next later all more counted newest = record {
+    each = subst (λ (ns : List Node). AreNumbered ns after) (sym all) (subst (AreNumbered (whole ++ node ∷ [])) (sym more)
+        (All-push (λ (one : Numbered). node_at (whole ++ node ∷ []) one.id ≡ Some one.node) held (record { id = record { 0 = count }; node = node })
+        (All-weaker (λ (one : Numbered). node_at whole one.id ≡ Some one.node) (λ (one : Numbered). node_at (whole ++ node ∷ []) one.id ≡ Some one.node) (λ one here. before_push whole node one.id.0 one.node here) held is.each)
+        (ap (λ (n : ℕ). node_at (whole ++ node ∷ []) (record { 0 = n })) is.counted ∙ at_push whole node)));
+    counted = counted ∙ (ap (λ (n : ℕ). n + 1) is.counted ∙ (sym (length_push whole node) ∙ ap length (sym all)));
+    newest = subst (λ (ns : List Node). NumbersNodes ns later) (sym all) newest;
+  }
 
 -- ---- none at first
 zero_at : (n place : ℕ) → ◌≡◌ {A = ℕ} (slice_index_or (replicate n 0) place 0) 0

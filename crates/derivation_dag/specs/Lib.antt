@@ -4,3 +4,5 @@ pub mod Places
 pub mod SupportedTables
 pub mod SupportCode
 pub mod Rows
+pub mod NodeCode
+pub mod Pruned

@@ -49,6 +49,10 @@ NumbersNodes nodes numbers = (key : Key) → IsNewest nodes key (number_of numbe
 abbrev pub IsBelowAll : List Node → Edge → Type 0
 IsBelowAll nodes edge = (other : NodeId) (node : Node) → node_at nodes other ≡ Some node → key_of node.edge ≡ key_of edge → edge.weight <ℤ node.edge.weight
 
+-- an edge is below each node of its key among so many first ones
+abbrev pub IsBelowFirst : List Node → ℕ → Edge → Type 0
+IsBelowFirst nodes first edge = (other : NodeId) (node : Node) → other.0 < first → node_at nodes other ≡ Some node → key_of node.edge ≡ key_of edge → edge.weight <ℤ node.edge.weight
+
 -- a node of the key of an edge is not above it
 pub record HasNodeAtMost (nodes : List Node) (edge : Edge) : Type 0 where
   pub id : NodeId

@@ -1,12 +1,11 @@
 //! A derivation list that finds the node of a key.
 
-ghost use Rattle.std.specs.Prelude.{◌≡◌, [], ◌∷◌, ◌++◌, length, IfOk, OnErr, int_lt};
+ghost use Rattle.std.specs.Prelude.{◌≡◌, [], IfOk, int_lt};
 ghost use Rattle.std.specs.Bool.{MatchBool};
-ghost use Rattle.closure_model.specs.Keys.{key_of};
-ghost use Rattle.closure_model.specs.Derivations.{IsGiven, IsNewest};
-ghost use Rattle.derivation_dag.specs.Numbers.{IsBelowAll, HasNodeAtMost};
+ghost use Rattle.derivation_dag.specs.Numbers.{IsBelowAll, IsBelowFirst, HasNodeAtMost};
 
 use crate::dag::Dag;
+use crate::node_list::NodeList;
 use crate::numbers::Numbers;
 use closure_model::{Node, NodeId};
 use net_model::{Edge, Network};
@@ -68,21 +67,35 @@ impl KeyedDag {
         &self.dag
     }
 
-    /// The node of the key of an edge, if it has one.
-    pub(crate) fn newest(&self, edge: &Edge) -> Option<NodeId>
-        ensures { IsNewest self.now (key_of edge.now) result }
+    /// Whether an edge is below every node of its key. It is below those among so many first ones.
+    fn is_below_all(&self, edge: &Edge, first: u64) -> bool
+        requires { IsBelowFirst self.now first edge.now }
+        ensures { MatchBool result (IsBelowAll self.now edge.now)
+            (HasNodeAtMost self.now edge.now) }
     {
+        let Some(id) = self.numbers.get(edge) else {
+            return true;
+        };
+        if id.0 < first {
+            return true;
+        }
+        is_below(edge, &self.dag.node(id).edge)
+    }
+}
+
+impl NodeList for KeyedDag {
+    ghost nodes = { λ keyed. keyed };
+
+    fn len(&self) -> u64 {
+        self.dag.len()
+    }
+
+    fn newest(&self, edge: &Edge) -> Option<NodeId> {
         self.numbers.get(edge)
     }
 
-    /// Puts a node at the end of the list, as `Dag::push` does.
-    pub(crate) fn push(&mut self, net: &Network, node: Node) -> Result<NodeId, AllocError>
-        requires { IsGiven net.now self.old node }
-        ensures pushed { IfOk result (λ id. (id.0 ≡ length self.old)
-            × (self.new ≡ self.old ++ node ∷ [])) }
-        ensures refused { OnErr result (self.new ≡ self.old) }
-    {
-        let below = self.is_below_all(&node.edge);
+    fn push_below(&mut self, net: &Network, node: Node, first: u64) -> Result<NodeId, AllocError> {
+        let below = self.is_below_all(&node.edge, first);
         self.numbers.reserve(&node.edge)?;
         let id = self.dag.push(net, node)?;
         if below {
@@ -90,20 +103,9 @@ impl KeyedDag {
         }
         Ok(id)
     }
-
-    /// Whether an edge is below every node of its key.
-    fn is_below_all(&self, edge: &Edge) -> bool
-        ensures { MatchBool result (IsBelowAll self.now edge.now)
-            (HasNodeAtMost self.now edge.now) }
-    {
-        match self.newest(edge) {
-            Some(id) => is_below(edge, &self.dag.node(id).edge),
-            None => true,
-        }
-    }
 }
 
-fn is_below(edge: &Edge, other: &Edge) -> bool
+pub(crate) fn is_below(edge: &Edge, other: &Edge) -> bool
     ensures { result ≡ int_lt edge.now.weight other.now.weight }
 {
     edge.weight < other.weight

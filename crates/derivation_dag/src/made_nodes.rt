@@ -1,63 +1,67 @@
 //! The nodes of the edges that a row made.
 
 ghost use Rattle.std.specs.Prelude.{◌≡◌, OnOk};
+ghost use Rattle.std.specs.List.{All};
 ghost use Rattle.closure_model.specs.ReferenceRound.{node_for};
 ghost use Rattle.derivation_dag.specs.Rows.{nodes_with, nodes_with_all, rule_with, HasRule};
 ghost use Rattle.derivation_dag.specs.Rows.{HaveRules};
+ghost use Rattle.derivation_dag.specs.Numbers.{IsBelowAll, IsBelowFirst};
 
-use crate::keyed_dag::KeyedDag;
+use crate::node_list::NodeList;
 use crate::supports::MadeRow;
 use closure_model::rows::{Made, Why};
 use closure_model::{Node, NodeId, Rule};
 use net_model::{Edge, Network};
 use std::alloc::AllocError;
 
-/// Puts the nodes of the edges that a row made at the end of a list, one after another.
-pub(crate) fn push_row(
+/// Puts the nodes of the edges that a row made at the end of a list, one after another. Each is
+/// below the nodes of its key that the list has.
+pub(crate) fn push_row<L: NodeList>(
     net: &Network,
-    list: &mut KeyedDag,
+    list: &mut L,
     row: &MadeRow<'_>,
 ) -> Result<(), AllocError>
-    requires { HaveRules net.now list.old row.now.made.now row.now.firsts.now }
-    ensures { OnOk result (list.new ≡ nodes_with_all list.old row.now.made.now row.now.firsts.now) }
+    requires rules { HaveRules net.now (L.nodes list.old) row.now.made.now row.now.firsts.now }
+    requires below { All (λ one. IsBelowAll (L.nodes list.old) one.edge) row.now.made.now }
+    ensures { OnOk result (L.nodes list.new ≡ nodes_with_all (L.nodes list.old) row.now.made.now
+        row.now.firsts.now) }
 {
+    let first = list.len();
     let mut firsts = row.firsts;
     for one in row.made {
-        let Some((first, rest)) = firsts.split_first() else {
+        let Some((premise, rest)) = firsts.split_first() else {
             return Ok(());
         };
-        push_made(net, list, one, *first)?;
+        push_made(net, list, one, *premise, first)?;
         firsts = rest;
     }
     Ok(())
 }
 
-/// Puts the node of an edge that a row made at the end of a list.
-fn push_made(
+/// Puts the node of an edge that a row made at the end of a list. It is below those of its key
+/// among so many first ones.
+fn push_made<L: NodeList>(
     net: &Network,
-    list: &mut KeyedDag,
+    list: &mut L,
     one: &Made,
-    first: Option<NodeId>,
+    premise: Option<NodeId>,
+    first: u64,
 ) -> Result<(), AllocError>
-    requires { HasRule net.now list.old one.now first }
-    ensures { OnOk result (list.new ≡ nodes_with list.old one.now first) }
+    requires rule { HasRule net.now (L.nodes list.old) one.now premise }
+    requires below { IsBelowFirst (L.nodes list.old) first one.now.edge }
+    ensures { OnOk result (L.nodes list.new ≡ nodes_with (L.nodes list.old) one.now premise) }
 {
-    if let Some(rule) = rule_of(list, &one.why, first) {
-        list.push(
-            net,
-            Node {
-                rule,
-                edge: one.edge,
-            },
-        )?;
+    let edge = one.edge;
+    if let Some(rule) = rule_of(list, &one.why, premise) {
+        list.push_below(net, Node { rule, edge }, first)?;
     }
     Ok(())
 }
 
 /// The rule of the node of an improved edge: its premise in the row is the node that the key now
 /// has.
-fn rule_of(list: &KeyedDag, why: &Why, first: Option<NodeId>) -> Option<Rule>
-    ensures { result ≡ rule_with list.now first why.now }
+fn rule_of<L: NodeList>(list: &L, why: &Why, first: Option<NodeId>) -> Option<Rule>
+    ensures { result ≡ rule_with (L.nodes list.now) first why.now }
 {
     match why {
         Why::No(_, second) => Some(Rule::No(first?, node_of(list, second)?)),
@@ -69,8 +73,8 @@ fn rule_of(list: &KeyedDag, why: &Why, first: Option<NodeId>) -> Option<Rule>
 }
 
 /// The node of the key of an edge.
-fn node_of(list: &KeyedDag, edge: &Edge) -> Option<NodeId>
-    ensures { result ≡ node_for list.now edge.now }
+fn node_of<L: NodeList>(list: &L, edge: &Edge) -> Option<NodeId>
+    ensures { result ≡ node_for (L.nodes list.now) edge.now }
 {
     list.newest(edge)
 }

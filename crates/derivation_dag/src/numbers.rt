@@ -6,6 +6,7 @@ ghost use Rattle.derivation_dag.specs.Places.{recorded};
 ghost use Rattle.derivation_dag.specs.Numbers.{number_of, AreSame, HasCapacity, IsWithout};
 
 use crate::key::EdgeKey;
+use crate::marks::Marks;
 use crate::square::Square;
 use closure_model::NodeId;
 use net_model::Edge;
@@ -79,6 +80,14 @@ impl Numbers {
                 let put: Result<_, _> = self.others.insert(EdgeKey::of(edge), NodeId(counted - 1));
                 put.unwrap();
             }
+        }
+    }
+
+    /// Marks all numbers, which is no clause.
+    pub(crate) fn mark_all(&self, marks: &mut Marks) {
+        self.ordinary.mark_all(marks);
+        for number in self.others.values() {
+            marks.mark(*number);
         }
     }
 }

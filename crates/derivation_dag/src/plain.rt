@@ -9,12 +9,14 @@ ghost use Rattle.closure_model.specs.Tables.{no_edges, IsFor};
 ghost use Rattle.closure_model.specs.Derivations.{base_support, bound_node, link_node, with_node};
 ghost use Rattle.closure_model.specs.Derivations.{IsGiven, StandsOn};
 ghost use Rattle.labelled_graph.specs.MergedRows.{no_shape};
+ghost use Rattle.derivation_dag.specs.Numbers.{IsBelowFirst};
 ghost use Rattle.derivation_dag.specs.Rows.{CanTakeRow, with_row};
 ghost use Rattle.derivation_dag.specs.SupportedTables.{no_support, IsSupported};
 
 use crate::dag::Dag;
 use crate::keyed_dag::KeyedDag;
 use crate::made_nodes::push_row;
+use crate::node_list::NodeList;
 use crate::supports::{MadeRow, Supports};
 use closure_model::{Node, NodeId, Rule};
 use labelled_graph::Table;
@@ -82,7 +84,7 @@ impl Plain {
             × (self.new ≡ with_node self.old node)) }
     {
         net.sound();
-        match take_node(net, &mut self.list, &mut self.table, node) {
+        match take_node(net, &mut self.list, &mut self.table, node, 0) {
             Ok(id) => Ok(id),
             Err(error) => {
                 lose(&mut self.list, &mut self.table);
@@ -126,22 +128,25 @@ impl Supports for Plain {
     }
 }
 
-/// Puts a node at the end of a list, and its edge into a table.
-fn take_node(
+/// Puts a node at the end of a list, and its edge into a table. It is below the nodes of its key
+/// among so many first ones.
+pub(crate) fn take_node<L: NodeList>(
     net: &Network,
-    list: &mut KeyedDag,
+    list: &mut L,
     table: &mut Table,
     node: Node,
+    first: u64,
 ) -> Result<NodeId, AllocError>
-    requires follows { IsGiven net.now list.old node }
+    requires follows { IsGiven net.now (L.nodes list.old) node }
+    requires below { IsBelowFirst (L.nodes list.old) first node.edge }
     requires key { IsKey table.old.shape (key_of node.edge) }
     requires weight { IsWeight node.edge.weight }
-    ensures { IfOk result (λ id. (id.0 ≡ length list.old)
-        × (record { nodes = list.new; table = table.new } ≡ with_node
-        (record { nodes = list.old; table = table.old }) node)) }
+    ensures { IfOk result (λ id. (id.0 ≡ length (L.nodes list.old))
+        × (record { nodes = L.nodes list.new; table = table.new } ≡ with_node
+        (record { nodes = L.nodes list.old; table = table.old }) node)) }
 {
     let edge = node.edge;
-    let id = list.push(net, node)?;
+    let id = list.push_below(net, node, first)?;
     table.lower_to(&edge)?;
     Ok(id)
 }
@@ -158,38 +163,40 @@ fn lose(list: &mut KeyedDag, table: &mut Table)
 }
 
 /// Puts the nodes of what a row made into a list, and its edges into a table.
-fn take_row(
+pub(crate) fn take_row<L: NodeList>(
     net: &Network,
-    list: &mut KeyedDag,
+    list: &mut L,
     table: &mut Table,
     row: &MadeRow<'_>,
 ) -> Result<(), AllocError>
-    requires supported { IsSupported (record { nodes = list.old; table = table.old }) }
-    requires row { CanTakeRow net.now (record { nodes = list.old; table = table.old })
+    requires supported { IsSupported (record { nodes = L.nodes list.old; table = table.old }) }
+    requires row { CanTakeRow net.now (record { nodes = L.nodes list.old; table = table.old })
         row.now.target row.now.made.now row.now.firsts.now }
-    ensures { OnOk result (record { nodes = list.new; table = table.new } ≡ with_row
-        (record { nodes = list.old; table = table.old }) row.now.made.now row.now.firsts.now) }
+    ensures { OnOk result (record { nodes = L.nodes list.new; table = table.new } ≡ with_row
+        (record { nodes = L.nodes list.old; table = table.old }) row.now.made.now
+        row.now.firsts.now) }
 {
     net.sound();
     push_row(net, list, row)?;
     table.lower_all(row.target, row.made)
 }
 
-fn push_bounds(list: &mut KeyedDag, net: &Network) -> Result<(), AllocError>
-    ensures { OnOk result (list.new ≡ list.old ++ map bound_node
+pub(crate) fn push_bounds<L: NodeList>(list: &mut L, net: &Network) -> Result<(), AllocError>
+    ensures { OnOk result (L.nodes list.new ≡ L.nodes list.old ++ map bound_node
         (enumerate_from 0 net.now.bounds)) }
 {
     for (place, bound) in net.bounds().iter().enumerate() {
-        list.push(net, bound_node(BoundId(place as u32), bound))?;
+        list.push_below(net, bound_node(BoundId(place as u32), bound), 0)?;
     }
     Ok(())
 }
 
-fn push_links(list: &mut KeyedDag, net: &Network) -> Result<(), AllocError>
-    ensures { OnOk result (list.new ≡ list.old ++ map link_node (enumerate_from 0 net.now.links)) }
+pub(crate) fn push_links<L: NodeList>(list: &mut L, net: &Network) -> Result<(), AllocError>
+    ensures { OnOk result (L.nodes list.new ≡ L.nodes list.old ++ map link_node
+        (enumerate_from 0 net.now.links)) }
 {
     for (place, link) in net.links().iter().enumerate() {
-        list.push(net, link_node(LinkId(place as u32), link))?;
+        list.push_below(net, link_node(LinkId(place as u32), link), 0)?;
     }
     Ok(())
 }

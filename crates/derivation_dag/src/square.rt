@@ -5,6 +5,7 @@ ghost use Rattle.std.specs.Prelude.{replicate, ◌*◌};
 ghost use Rattle.closure_model.specs.Keys.{key_of};
 ghost use Rattle.derivation_dag.specs.Places.{dense_place, recorded};
 
+use crate::marks::Marks;
 use closure_model::NodeId;
 use net_model::Edge;
 use std::alloc::{AllocError, Global};
@@ -78,6 +79,15 @@ impl Square {
         } }
     {
         self.counted[place] = counted;
+    }
+
+    /// Marks all numbers, which is no clause.
+    pub(crate) fn mark_all(&self, marks: &mut Marks) {
+        for counted in self.counted.as_slice() {
+            if let Some(number) = recorded(*counted) {
+                marks.mark(number);
+            }
+        }
     }
 }
 

@@ -1,6 +1,6 @@
 -- What rounds from the base of a network that is not controllable come to.
-use Rattle.std.proofs.Common.{◌≡◌, ℕ, List, Result, Ok, Err, refl, ap, subst}
-use Rattle.std.specs.Prelude.{IfOk}
+use Rattle.std.proofs.Common.{◌≡◌, ℕ, List, Option, Some, None, Result, Ok, Err, refl, ap, subst}
+use Rattle.std.specs.Prelude.{IfOk, IfSome}
 use Rattle.std.specs.declared.alloc.AllocError.{AllocError}
 use Rattle.net_model.specs.Network.{Plan, IsPlan}
 use Rattle.net_model.specs.declared.ids.PointId.{PointId}
@@ -57,3 +57,11 @@ module _ (net : Plan) (after : Support) (outcome : Outcome) (propagated : IsProp
       → IfOk answer (λ (cert : Certificate). judgement_of net cert ≡ Accepted NotControllable) → IfOk answer HasWeights → IfOk answer (Refutes net)
   refutes_if_ok rounds cycle (Ok cert) is never by accepted weights = refutes rounds cycle cert is never by accepted weights
   refutes_if_ok rounds cycle (Err error) is never by accepted weights = tt
+
+  -- so is one that was made if the store held what it takes
+  pub refutes_if_held : (rounds : ℕ) (cycle : List PointId) (answer : Result (Option Certificate) AllocError) → outcome ≡ Looped rounds cycle → ¬ IsControllable net
+      → IfOk answer (λ (held : Option Certificate). IfSome held (IsCertificateBy net after.nodes cycle)) → IfOk answer (λ (held : Option Certificate). IfSome held (λ (cert : Certificate). judgement_of net cert ≡ Accepted NotControllable))
+      → IfOk answer (λ (held : Option Certificate). IfSome held HasWeights) → IfOk answer (λ (held : Option Certificate). IfSome held (Refutes net))
+  refutes_if_held rounds cycle (Ok (Some cert)) is never by accepted weights = refutes rounds cycle cert is never by accepted weights
+  refutes_if_held rounds cycle (Ok None) is never by accepted weights = tt
+  refutes_if_held rounds cycle (Err error) is never by accepted weights = tt

@@ -1,19 +1,18 @@
 //! The refutation of a network by rounds from its base.
 
-ghost use Rattle.std.specs.Prelude.{◌≡◌, ◌≤◌, IfOk};
+ghost use Rattle.std.specs.Prelude.{◌≡◌, ◌≤◌, IfOk, IfSome};
 ghost use Rattle.strategy_model.specs.Control.{IsControllable};
 ghost use Rattle.closure_model.specs.Derivations.{base_support};
 ghost use Rattle.work_board.specs.Limits.{most_seats};
 ghost use Rattle.parallel_rounds.specs.Propagated.{IsPropagated};
 ghost use Rattle.refutation_certificates.specs.Refutations.{Refutes};
 
-use crate::pruned::Pruned;
 use cert_format::Certificate;
 use closure_laws::laws::law_ordered_closures_are_controllable;
-use derivation_dag::Plain;
+use derivation_dag::{Plain, Pruned};
 use net_model::Network;
 use parallel_rounds::{Gate, Outcome, propagate};
-use refutation_certificates::refutation;
+use refutation_certificates::{refutation, refutation_if_held};
 use std::alloc::{AllocError, Global};
 use std::thread::Threads;
 
@@ -34,30 +33,30 @@ pub fn refute<R: Threads + Sync, G: Gate>(
     ensures { IfOk result (Refutes net.now) }
 {
     let mut store = Pruned::of(alloc, net)?;
-    match propagate(rt, alloc, net, &mut store, workers, gate) {
-        Ok(outcome) => refuted(alloc, net, &store, &outcome),
-        Err(AllocError) if store.has_missed() => refute_whole(rt, alloc, net, workers, gate),
-        Err(AllocError) => Err(AllocError),
+    let outcome = propagate(rt, alloc, net, &mut store, workers, gate)?;
+    match refuted(alloc, net, &store, &outcome)? {
+        Some(certificate) => Ok(certificate),
+        None => refute_whole(rt, alloc, net, workers, gate),
     }
 }
 
-/// The refutation by rounds that ended, which had a store that gives up nodes.
+/// The refutation by rounds that ended, if the store holds what it takes.
 fn refuted(
     alloc: Global,
     net: &Network,
     store: &Pruned,
     outcome: &Outcome,
-) -> Result<Certificate, AllocError>
+) -> Result<Option<Certificate>, AllocError>
     requires never { ¬ IsControllable net.now }
     requires no_delay { net.now.delay ≡ 0 }
     requires propagated { IsPropagated net.now (base_support net.now) store.now outcome.now }
-    ensures { IfOk result (Refutes net.now) }
+    ensures { IfOk result (λ held. IfSome held (Refutes net.now)) }
 {
     law_ordered_closures_are_controllable();
     net.sound();
     match outcome {
         Outcome::Closed { .. } => unreachable!(),
-        Outcome::Looped { cycle, .. } => store.refutation(alloc, net, cycle.as_slice()),
+        Outcome::Looped { cycle, .. } => refutation_if_held(alloc, net, store, cycle.as_slice()),
     }
 }
 

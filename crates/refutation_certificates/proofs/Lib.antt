@@ -9,3 +9,4 @@ pub mod LineNumbers
 pub mod CycleSteps
 pub mod CanBeMade
 pub mod OneCertificate
+pub mod HeldLines

@@ -1,6 +1,6 @@
 //! The refutation of a network by a cycle of its table.
 
-ghost use Rattle.std.specs.Prelude.{◌≡◌, map, IfOk, IsSome};
+ghost use Rattle.std.specs.Prelude.{◌≡◌, map, IfOk, IfSome, IsSome};
 ghost use Rattle.std.specs.List.{All, AllZip, Contains, AllByRecursion};
 ghost use Rattle.closure_model.specs.Derivations.{StandsOn, IsNodeOf};
 ghost use Rattle.closure_model.specs.Keys.{ordinary_key};
@@ -11,12 +11,13 @@ ghost use Rattle.cert_format.specs.CertificateWords.{HasWeights};
 ghost use Rattle.cert_checker.specs.Judgement.{judgement_of};
 ghost use Rattle.cert_checker.specs.declared.judgement.Judgement.TheVariants.{Accepted};
 ghost use Rattle.cert_checker.specs.declared.judgement.Claim.TheVariants.{NotControllable};
+ghost use Rattle.derivation_dag.specs.Pruned.{numbers_in};
 ghost use Rattle.refutation_certificates.specs.Certificates.{IsCertificateBy};
 ghost use Rattle.refutation_certificates.specs.RuleLines.{AreInOrderOfMaking, HasWeight};
 
-use crate::lines::{line_of, lines_by};
+use crate::lines::{line_of, lines_by, lines_of};
 use cert_format::Certificate;
-use derivation_dag::{Dag, NodeId, Supports};
+use derivation_dag::{Dag, NodeId, Numbered, Pruned, Supports};
 use net_model::{Edge, Items, Network, PointId};
 use std::alloc::{AllocError, Global};
 
@@ -50,6 +51,42 @@ pub fn refutation<S: Supports>(
         lines: Items::new(lines),
         walk: Items::new(walk),
     })
+}
+
+/// The same of a store that gives up nodes, if it holds those that are lines.
+pub fn refutation_if_held(
+    alloc: Global,
+    net: &Network,
+    store: &Pruned,
+    cycle: &[PointId],
+) -> Result<Option<Certificate>, AllocError>
+    requires stands { StandsOn net.now store.now }
+    requires cycle { IsCycle store.now.table cycle.now }
+    ensures refutes { IfOk result (λ held. IfSome held (IsCertificateBy net.now store.now.nodes
+        cycle.now)) }
+    ensures accepted { IfOk result (λ held. IfSome held
+        (λ certificate. judgement_of net.now certificate ≡ Accepted NotControllable)) }
+    ensures weights { IfOk result (λ held. IfSome held HasWeights) }
+{
+    net.sound();
+    let steps = steps_of(alloc, store, cycle)?;
+    let Some(found) = store.ancestors(alloc, steps.as_slice())? else {
+        return Ok(None);
+    };
+    let ids = ids_of(alloc, found.as_slice())?;
+    let lines = lines_of(alloc, net, store, ids.as_slice(), found.as_slice())?;
+    let walk = walk_by(alloc, ids.as_slice(), steps.as_slice())?;
+    Ok(Some(Certificate::Refutation {
+        lines: Items::new(lines),
+        walk: Items::new(walk),
+    }))
+}
+
+/// The numbers of nodes.
+fn ids_of(alloc: Global, found: &[Numbered]) -> Result<Vec<NodeId>, AllocError>
+    ensures { IfOk result (λ ids. ids.items ≡ numbers_in found.now) }
+{
+    found.iter().map(|numbered| numbered.id).collect(alloc)
 }
 
 /// The nodes of the edges of a cycle, in order.

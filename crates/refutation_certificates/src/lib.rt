@@ -7,5 +7,5 @@ pub mod laws;
 mod lines;
 mod names;
 
-pub use cycle_refutation::refutation;
+pub use cycle_refutation::{refutation, refutation_if_held};
 pub use names::link_name;

@@ -6,6 +6,7 @@ ghost use Rattle.std.specs.List.{AllByRecursion, Contains};
 ghost use Rattle.closure_model.specs.Derivations.{item_of, premises_of};
 ghost use Rattle.closure_model.specs.ReferenceRounds.{line_of};
 ghost use Rattle.cert_format.specs.Kind.{has_label};
+ghost use Rattle.derivation_dag.specs.Pruned.{AreNumbered, numbers_in};
 ghost use Rattle.refutation_certificates.specs.Certificates.{kind_of, label_name, only_if};
 ghost use Rattle.refutation_certificates.specs.Certificates.{rule_line_of_node, lines_by};
 ghost use Rattle.refutation_certificates.specs.RuleLines.{IsItemOf, AreInOrderOfMaking, CanBeLine};
@@ -13,7 +14,7 @@ ghost use Rattle.refutation_certificates.specs.RuleLines.{CanBeLines};
 
 use crate::names::{bound_name, link_name};
 use cert_format::{CertLine, LineKind};
-use derivation_dag::{Dag, Node, NodeId, Rule};
+use derivation_dag::{Dag, Node, NodeId, Numbered, Pruned, Rule};
 use net_model::{LinkId, Name, Network};
 use std::alloc::{AllocError, Global};
 
@@ -30,6 +31,27 @@ pub(crate) fn lines_by(
     let mut made = Vec::new(alloc);
     for id in lines {
         push_line(&mut made, net, lines, dag.node(*id))?;
+    }
+    Ok(made)
+}
+
+/// Nodes of a list, which have these numbers there, as rule lines, in their order.
+pub(crate) fn lines_of(
+    alloc: Global,
+    net: &Network,
+    store: &Pruned,
+    lines: &[NodeId],
+    nodes: &[Numbered],
+) -> Result<Vec<CertLine>, AllocError>
+    requires can { CanBeLines net.now store.now.nodes lines.now }
+    requires numbers { lines.now ≡ numbers_in nodes.now }
+    requires numbered { AreNumbered store.now.nodes nodes.now }
+    ensures { IfOk result (λ made. made.items ≡ lines_by net.now store.now.nodes lines.now) }
+{
+    let _ = store;
+    let mut made = Vec::new(alloc);
+    for numbered in nodes {
+        push_line(&mut made, net, lines, &numbered.node)?;
     }
     Ok(made)
 }

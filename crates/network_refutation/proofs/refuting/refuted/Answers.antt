@@ -1,8 +1,9 @@
-use Rattle.std.proofs.Common.{List, subst}
-use Rattle.std.specs.Prelude.{IfOk}
+use Rattle.std.proofs.Common.{List, Option, subst}
+use Rattle.std.specs.Prelude.{IfOk, IfSome}
 use Rattle.net_model.specs.declared.ids.PointId.{PointId}
+use Rattle.cert_format.specs.declared.certificate.Certificate.{Certificate}
 use Rattle.refutation_certificates.specs.Certificates.{IsCertificateBy}
-use Rattle.network_refutation.proofs.RefutingLemmas.{closed_controls, refutes_if_ok}
+use Rattle.network_refutation.proofs.RefutingLemmas.{closed_controls, refutes_if_held}
 use Rattle.network_refutation.proofs.refuting.refuted.Goals as goal
 
 pub unreachable-requires : goal.unreachable-requires
@@ -11,6 +12,6 @@ unreachable-requires c =
 
 pub returns : goal.returns
 returns c =
-    let by = subst (λ (cycle : List PointId). IfOk c.refutation.result (IsCertificateBy c.args.net.now c.args.store.now.nodes cycle)) c.as_slice.ensures c.refutation.ensures.refutes in
-    refutes_if_ok c.args.net.now c.args.store.now c.args.outcome.now c.requires.propagated c.in-Looped.rounds c.in-Looped.cycle c.refutation.result c.in-Looped.is c.requires.never by c.refutation.ensures.accepted
-    c.refutation.ensures.weights
+    let made = c.refutation_if_held in
+    let by = subst (λ (cycle : List PointId). IfOk made.result (λ (held : Option Certificate). IfSome held (IsCertificateBy c.args.net.now c.args.store.now.nodes cycle))) c.as_slice.ensures made.ensures.refutes in
+    refutes_if_held c.args.net.now c.args.store.now c.args.outcome.now c.requires.propagated c.in-Looped.rounds c.in-Looped.cycle made.result c.in-Looped.is c.requires.never by made.ensures.accepted made.ensures.weights

@@ -1,3 +1,0 @@
-pub mod NodeCode
-pub mod Copies
-pub mod Pruned
