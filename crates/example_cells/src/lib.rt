@@ -2,6 +2,9 @@
 //! workers go over targets at once.
 #![tactic(auto)]
 
+#[cfg(test)]
 mod gates;
+#[cfg(test)]
 mod seats;
+#[cfg(test)]
 mod settlements;
