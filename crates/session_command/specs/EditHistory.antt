@@ -6,8 +6,7 @@ use Rattle.net_model.specs.declared.edit.Edit.{Edit}
 use Rattle.strategy_model.specs.Control.{IsControllable}
 use Rattle.dispatch_net.specs.Dispatchable.{DispatchLists}
 use Rattle.forward_executor.specs.ForwardExecutions.{IsForwardDispatch}
-use Rattle.plan_session.specs.declared.answers.Report.{Report}
-use Rattle.session_command.specs.Followed.{AreAccepted, EditsMake, IsReport, Past}
+use Rattle.session_command.specs.Followed.{AreAccepted, EditsMake, Past}
 use Rattle.session_command.specs.declared.derivations.Derived.{Derived}
 use Rattle.session_command.specs.declared.derivations.Derived.TheVariants as derived
 
@@ -34,11 +33,6 @@ edits_in (Some past) = past.edits
 -- if edits are kept, each is accepted
 abbrev pub AreKeptAccepted : Option Past → Type 0
 AreKeptAccepted past = IfSome past (λ kept. AreAccepted kept.first kept.edits)
-
--- the report by what is kept of accepted edits
-abbrev pub IsReportIn : Option Past → Option Report → Type 0
-IsReportIn None report = report ≡ None
-IsReportIn (Some past) report = IsReport past.first past.edits report
 
 -- the answer says whether the network is controllable
 pub record IsVerdict (net : Plan) (answer : Bool) : Type 0 where

@@ -111,6 +111,10 @@ StandsAfter before (step.Edit edit) after = StandsAfterEdit before edit (edited 
 StandsAfter before step_stated after = after ≡ before
 
 -- ---- how it goes on
+-- the session goes on with an edited network
+abbrev pub edits_on : Standing → Flow InSession
+edits_on standing = Continue (Editing standing)
+
 -- the network is edited further
 abbrev pub EditsOn : Standing → Step → List ℕ → Flow InSession → Type 0
 EditsOn standing step_stated answer flow = (after : Standing) × SaysStep standing step_stated answer × StandsAfter standing step_stated after

@@ -2,7 +2,7 @@
 
 ghost use Rattle.std.specs.Prelude.{◌≡◌, [], ◌∷◌, ◌++◌, IfOk};
 ghost use Rattle.session_command.specs.EditHistory.{edits_in, first_in};
-ghost use Rattle.session_command.specs.EditHistory.{AreKeptAccepted, IsReportIn};
+ghost use Rattle.session_command.specs.EditHistory.{AreKeptAccepted};
 ghost use Rattle.session_command.specs.Followed.{AreAccepted, IsReport};
 
 use crate::derivations::{Derivations, Derived};
@@ -158,25 +158,5 @@ pub(crate) fn with_accepted<R: Threads + Sync>(
     match history {
         None => History::of(alloc, net, edit),
         Some(history) => history.note(rt, alloc, workers, edit),
-    }
-}
-
-/// What is kept of accepted edits, and the report. `AllocError` comes only for want of memory.
-pub(crate) fn with_report<R: Threads + Sync>(
-    rt: &R,
-    alloc: Global,
-    history: Option<History>,
-    workers: &WorkerCount,
-) -> Result<(Option<History>, Option<Report>), AllocError>
-    requires accepted { AreKeptAccepted history }
-    ensures same { IfOk result (λ answer. answer.0 ≡ history) }
-    ensures report { IfOk result (λ answer. IsReportIn history answer.1) }
-{
-    match history {
-        None => Ok((None, None)),
-        Some(history) => {
-            let (history, report) = history.report(rt, alloc, workers)?;
-            Ok((Some(history), report))
-        }
     }
 }

@@ -5,13 +5,14 @@ ghost use Rattle.net_model.specs.EditedNetwork.{edited};
 ghost use Rattle.net_model.specs.Network.{IsPlan};
 ghost use Rattle.edit_script.specs.declared.step.Step.TheVariants as step;
 ghost use Rattle.session_command.specs.EditHistory.{IsDispatched, IsVerdict};
+ghost use Rattle.session_command.specs.Followed.{IsReport};
 ghost use Rattle.session_command.specs.Sessions.{net_of, IsQuestion, OpensOn, SaysProof, SaysStep};
 ghost use Rattle.session_command.specs.Sessions.{SaysTable, StandsAfter};
 
 use crate::decided_network::{
     certificate, dispatch_if_controllable, dispatch_of_closure, is_controllable,
 };
-use crate::edit_history::{History, with_accepted, with_report};
+use crate::edit_history::{History, with_accepted};
 use crate::session_answers::{push_refused, push_report, push_table};
 use cert_format::print_certificate;
 use command_contracts::WorkerCount;
@@ -21,8 +22,10 @@ use dispatch_net::Dispatch;
 use edit_script::Step;
 use net_model::{Edit, EditFault, Network};
 use plan_format::print_plan;
+use plan_session::Report;
 use std::alloc::{AllocError, Global};
 use std::marker::Model;
+use std::mem;
 use std::thread::Threads;
 use strategy_model::laws::shown::law_controllable_is_shown;
 
@@ -66,17 +69,17 @@ impl Editing {
     }
 
     /// Edits the network, and puts whether the edit is accepted; a refused one changes nothing.
-    /// `AllocError` comes only for want of memory.
+    /// `AllocError` comes only for want of memory; then the caller drops the session.
     pub(crate) fn edit<R: Threads + Sync>(
-        self,
+        &mut self,
         rt: &R,
         alloc: Global,
         answer: &mut Answer,
         edit: &Edit,
-    ) -> Result<Editing, AllocError>
+    ) -> Result<(), AllocError>
         requires { answer.old.text ≡ [] }
-        ensures says { IfOk result (λ after. SaysStep self (step.Edit edit.now) answer.new.text) }
-        ensures stands { IfOk result (StandsAfter self (step.Edit edit.now)) }
+        ensures says { OnOk result (SaysStep self.old (step.Edit edit.now) answer.new.text) }
+        ensures stands { OnOk result (StandsAfter self.old (step.Edit edit.now) self.new) }
     {
         match self.net.apply(alloc, edit) {
             Ok(net) => {
@@ -84,70 +87,64 @@ impl Editing {
                 self.accept(rt, alloc, edit, net)
             }
             Err(EditFault::OutOfMemory) => Err(AllocError),
-            Err(cause) => {
-                push_refused(answer, &self.net, cause)?;
-                Ok(self)
-            }
+            Err(cause) => push_refused(answer, &self.net, cause),
         }
     }
 
-    /// The session after an accepted edit, which makes this network.
+    /// Notes an accepted edit, which makes this network.
     fn accept<R: Threads + Sync>(
-        self,
+        &mut self,
         rt: &R,
         alloc: Global,
         edit: &Edit,
         net: Network,
-    ) -> Result<Editing, AllocError>
-        requires { edited self.net edit.now ≡ Ok net }
-        ensures { IfOk result (λ after. after ≡ record {
-          first = self.first;
-          edits = self.edits ++ edit.now ∷ [];
+    ) -> Result<(), AllocError>
+        requires { edited self.old.net edit.now ≡ Ok net }
+        ensures { OnOk result (self.new ≡ record {
+          first = self.old.first;
+          edits = self.old.edits ++ edit.now ∷ [];
           net = net;
         }) }
     {
-        let Editing {
-            net: before,
-            workers,
-            history,
-            ..
-        } = self;
-        let history = with_accepted(rt, alloc, before, history, &workers, edit)?;
-        let verdict = None;
-        Ok(Editing {
-            net,
-            verdict,
-            workers,
-            history: Some(history),
-        })
+        let history = self.history.take();
+        let before = mem::replace(&mut self.net, net);
+        self.verdict = None;
+        let history = with_accepted(rt, alloc, before, history, &self.workers, edit)?;
+        self.history = Some(history);
+        Ok(())
     }
 
     /// Puts the numbers of the last accepted edit, or that there was none. `AllocError` comes only
-    /// for want of memory.
+    /// for want of memory; then the caller drops the session.
     pub(crate) fn report<R: Threads + Sync>(
-        self,
+        &mut self,
         rt: &R,
         alloc: Global,
         answer: &mut Answer,
-    ) -> Result<Editing, AllocError>
+    ) -> Result<(), AllocError>
         requires { answer.old.text ≡ [] }
-        ensures says { IfOk result (λ after. SaysStep self step.Report answer.new.text) }
-        ensures same { IfOk result (λ after. after ≡ self) }
+        ensures says { OnOk result (SaysStep self.old step.Report answer.new.text) }
+        ensures same { OnOk result (self.new ≡ self.old) }
     {
-        let Editing {
-            net,
-            verdict,
-            workers,
-            history,
-        } = self;
-        let (history, report) = with_report(rt, alloc, history, &workers)?;
-        push_report(answer, report)?;
-        Ok(Editing {
-            net,
-            verdict,
-            workers,
-            history,
-        })
+        let report = self.reported(rt, alloc)?;
+        push_report(answer, report)
+    }
+
+    /// The report of the accepted edits.
+    fn reported<R: Threads + Sync>(
+        &mut self,
+        rt: &R,
+        alloc: Global,
+    ) -> Result<Option<Report>, AllocError>
+        ensures report { IfOk result (IsReport self.old.first self.old.edits) }
+        ensures same { OnOk result (self.new ≡ self.old) }
+    {
+        let Some(history) = self.history.take() else {
+            return Ok(None);
+        };
+        let (history, report) = history.report(rt, alloc, &self.workers)?;
+        self.history = Some(history);
+        Ok(report)
     }
 
     /// Puts the answer to a question about the network as it stands. `AllocError` comes only for

@@ -2,11 +2,12 @@
 //! the execution of the network as it stands.
 
 ghost use Rattle.std.specs.Prelude.{◌≡◌, [], IfOk};
+ghost use Rattle.std.specs.Option.{unwrap_or};
 ghost use Rattle.command_engine.specs.Machine.{HasCapacity};
 ghost use Rattle.command_engine.specs.Phases.{wrapped};
 ghost use Rattle.session_command.specs.SessionPromise.{session_promise};
 ghost use Rattle.session_command.specs.Sessions.{session_begins, session_machine, session_start};
-ghost use Rattle.session_command.specs.Sessions.{AnswersStep};
+ghost use Rattle.session_command.specs.Sessions.{edits_on, AnswersStep};
 ghost use Rattle.edit_script.specs.declared.step.Step.TheVariants as step;
 
 use crate::edited_session::Editing;
@@ -102,7 +103,13 @@ impl Command for InSession {
                 rt, alloc, answer, number, line,
             )?)),
             InSession::Editing(state) => match read_step(line) {
-                Ok(step) => answer_step(rt, alloc, answer, state, step),
+                Ok(step) => {
+                    let mut state = state;
+                    match answer_step(rt, alloc, answer, &mut state, step)? {
+                        Some(flow) => Ok(flow),
+                        None => Ok(Flow::Continue(InSession::Editing(state))),
+                    }
+                }
                 Err(WordFault::Kind(kind)) => {
                     let fault = Fault::Format(number, kind);
                     fault.put(answer);
@@ -167,56 +174,61 @@ impl OneRun for SessionCommand {
     }
 }
 
-/// Answers what a line states while the network is edited.
+/// Answers what a line states while the network is edited. There is no flow if it is edited
+/// further.
 fn answer_step<R: Threads + Sync>(
     rt: &R,
     alloc: Global,
     answer: &mut Answer,
-    state: Editing,
+    state: &mut Editing,
     step: Step,
-) -> Result<Flow<InSession>, AllocError>
+) -> Result<Option<Flow<InSession>>, AllocError>
     requires { answer.old.text ≡ [] }
-    ensures answers { IfOk result (AnswersStep state step answer.new.text) }
-    ensures spare_capacity { IfOk result
-        (λ flow. HasCapacity session_machine flow answer.new.capacity) }
+    ensures answers { IfOk result (λ flow. AnswersStep state.old step answer.new.text
+        (unwrap_or flow (edits_on state.new))) }
+    ensures spare_capacity { IfOk result (λ flow. HasCapacity session_machine
+        (unwrap_or flow (edits_on state.new)) answer.new.capacity) }
 {
     match step {
-        Step::End => Ok(Flow::Finish(End::Done)),
+        Step::End => Ok(Some(Flow::Finish(End::Done))),
         Step::Go => go(rt, alloc, answer, state),
         Step::Edit(edit) => {
-            let state = state.edit(rt, alloc, answer, &edit)?;
-            Ok(Flow::Continue(InSession::Editing(state)))
+            state.edit(rt, alloc, answer, &edit)?;
+            Ok(None)
         }
         Step::Report => {
-            let state = state.report(rt, alloc, answer)?;
-            Ok(Flow::Continue(InSession::Editing(state)))
+            state.report(rt, alloc, answer)?;
+            Ok(None)
         }
         Step::Blank | Step::Verdict | Step::Proof | Step::Table | Step::Plan => {
-            let mut state = state;
             state.in_steps(rt, alloc, answer, step)?;
-            Ok(Flow::Continue(InSession::Editing(state)))
+            Ok(None)
         }
     }
 }
 
 /// Begins the execution of the shown form of the network as it stands, if that is controllable;
-/// else puts that it is not.
+/// else puts that it is not, and there is no flow.
 fn go<R: Threads + Sync>(
     rt: &R,
     alloc: Global,
     answer: &mut Answer,
-    state: Editing,
-) -> Result<Flow<InSession>, AllocError>
+    state: &Editing,
+) -> Result<Option<Flow<InSession>>, AllocError>
     requires { answer.old.text ≡ [] }
-    ensures answers { IfOk result (AnswersStep state step.Go answer.new.text) }
-    ensures spare_capacity { IfOk result
-        (λ flow. HasCapacity session_machine flow answer.new.capacity) }
+    ensures answers { IfOk result (λ flow. AnswersStep state.now step.Go answer.new.text
+        (unwrap_or flow (edits_on state.now))) }
+    ensures spare_capacity { IfOk result (λ flow. HasCapacity session_machine
+        (unwrap_or flow (edits_on state.now)) answer.new.capacity) }
 {
     match state.dispatch(rt, alloc)? {
-        Some((shown, dispatch)) => Ok(executing(begin_dispatched(alloc, answer, shown, dispatch)?)),
+        Some((shown, dispatch)) => {
+            let flow = begin_dispatched(alloc, answer, shown, dispatch)?;
+            Ok(Some(executing(flow)))
+        }
         None => {
             push_verdict(answer, false)?;
-            Ok(Flow::Continue(InSession::Editing(state)))
+            Ok(None)
         }
     }
 }
