@@ -1,6 +1,7 @@
 //! Plain programs of the same definitions as the workbench's engine, to measure it with. No promise of theirs is proved.
 //!
 //!     plain WAY [--nodes] < PLAN
+//!     cat PLAN CERTIFICATE | plain judge [--delay N]
 //!
 //! WAY is how the verdict is sought: `told` makes rounds whose rows are told which ordinary edges fell in the last round; `blocks` makes
 //! the same rounds over dense words, a block of which is tested at once; `stale` makes, after the first round, the rows whose targets are
@@ -8,10 +9,14 @@
 //! table without rounds; `forward` makes a forward closed table, and `morris` is the algorithm of Morris 2014. Prints what `check` prints of
 //! a plan without faults, of the last three ways without a refutation. On standard error stand the rounds and the nodes; with --nodes a line
 //! for each node, in order of making, comes first.
+//!
+//! `judge` makes all tests that docs/FORMAT.md tells of a plan text and of a certificate, and prints what `stnu judge` prints, with its
+//! status, refusals and faults too. It takes neither `--json` nor `--strong`.
 
 mod blocks;
 mod closing;
 mod forward;
+mod judge;
 mod morris;
 mod order;
 mod plan;
@@ -89,11 +94,42 @@ fn alone(plan: &Plan, is_controllable: fn(&Plan) -> bool) -> io::Result<()> {
     writeln!(io::stdout().lock(), "{verdict}")
 }
 
+/// Judges the plan and the certificate of the input, and prints the answer.
+fn judged(delay: Option<i64>) -> ExitCode {
+    let input = io::BufReader::with_capacity(1 << 16, io::stdin().lock());
+    let (answer, status) = match judge::judge(input, delay) {
+        Ok(accepted) => (accepted.to_string(), 0),
+        Err(stop) => (stop.to_string(), stop.status()),
+    };
+    match writeln!(io::stdout().lock(), "{answer}") {
+        Ok(()) => ExitCode::from(status),
+        Err(_) => ExitCode::from(6),
+    }
+}
+
+/// The delay of a call of `judge`, from the words after it: `Some(None)` if it has none, and `None` if the words are no call.
+fn delay(words: &[String]) -> Option<Option<i64>> {
+    let number = match words {
+        [] => return Some(None),
+        [word] => word.strip_prefix("--delay=")?,
+        [word, number] if word == "--delay" => number,
+        _ => return None,
+    };
+    Some(Some(judge::delay(number)?))
+}
+
 fn main() -> ExitCode {
     let words: Vec<String> = std::env::args().skip(1).collect();
+    if let Some(delay) = words
+        .split_first()
+        .filter(|(way, _)| *way == "judge")
+        .and_then(|(_, rest)| delay(rest))
+    {
+        return judged(delay);
+    }
     let way = words.first().and_then(|word| way_of(word));
     let (Some(way), Some(shows_nodes)) = (way, shows_nodes(&words)) else {
-        eprintln!("usage: plain told|blocks|stale|letter|closing|forward|morris [--nodes] < PLAN");
+        eprintln!("usage: plain told|blocks|stale|letter|closing|forward|morris [--nodes] < PLAN, or plain judge [--delay N]");
         return ExitCode::from(2);
     };
     let mut text = String::new();
