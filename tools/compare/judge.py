@@ -3,14 +3,21 @@
 Each input is a small random plan, most often without a delay, and a random derivation over it, or
 its table, of which most have a few words, lines or bytes changed. Prints each input on which the
 two differ, how often each answer came, and how many inputs there were.
+
+With --plain the plain judge of tools/plain is compared with PROGRAM: on the calls of `judge` that
+examples/answers lists, but for those with `--json` or `--strong`; on the plans of examples with
+their certificates, as `check --proof` prints them; and on random small plans with theirs, each as
+it is and then with one number of one line of the certificate changed.
 """
 
 import random
+import subprocess
 
-from inputs.random_plans import as_input, random_delay, random_header, with_a_word_changed
+from inputs.random_plans import as_input, random_delay, random_header, random_plan, with_a_word_changed
 from reference.judge import judge
 from shared import front
 from shared.answers import Differences, given_at_once, words_alone
+from shared.places import EXAMPLES, built_plain
 
 ODD_WORDS = [
     "point", "bound", "link", "end", "stnu", "no", "up", "low", "cross", "drop", "walk", "refutation", "table", "order", "edge",
@@ -193,12 +200,72 @@ def random_input(choose, delay):
     return data
 
 
+def certificate_of(program, plan, delay_words=()):
+    """The lines of the certificate that `check --proof` prints of a plan."""
+    command = [program, "check", "--proof", *delay_words]
+    return subprocess.run(command, input=plan, stdout=subprocess.PIPE, check=False).stdout.decode().splitlines()[1:]
+
+
+def with_a_number_changed(choose, lines):
+    """One number of one of these lines is another one, most often near to it."""
+    is_number = lambda word: word.lstrip("-").isdigit()
+    words = [line.split() for line in lines]
+    places = [(i, k) for i, line in enumerate(words) for k, word in enumerate(line) if is_number(word) and i > 0]
+    if places:
+        i, k = choose.choice(places)
+        words[i][k] = str(int(words[i][k]) + choose.choice([-1000, -2, -1, -1, 1, 1, 2, 1000]))
+    return [" ".join(line) for line in words]
+
+
+def calls_of_examples(program):
+    """The words and the input of each call of `judge` on examples."""
+    for row in (EXAMPLES / "answers").read_text(encoding="utf-8").splitlines():
+        parts = [part.split() for part in row.split("|")]
+        if len(parts) == 4 and parts[1][0] == "judge" and not {"--json", "--strong"} & set(parts[1]):
+            yield parts[1][1:], b"".join((EXAMPLES / name).read_bytes() for name in parts[2])
+    for path in sorted(EXAMPLES.glob("*/*.stnu")):
+        plan = path.read_bytes()
+        yield [], plan + "\n".join([*certificate_of(program, plan), ""]).encode()
+
+
+def drawn_calls(program, choose, count):
+    """The words and the input of calls on so many random plans, each as it is and changed."""
+    for _ in range(count):
+        plan = "\n".join([*random_plan(choose, 1), ""]).encode()
+        _, delay_words = random_delay(choose)
+        lines = certificate_of(program, plan, delay_words)
+        for given in (lines, with_a_number_changed(choose, lines)):
+            yield delay_words, plan + "\n".join([*given, ""]).encode()
+
+
+def answered(command, data):
+    done = subprocess.run(command, input=data, capture_output=True, check=False)
+    return done.stdout.decode(), done.returncode
+
+
+def compare_plain(program, count, seed):
+    plain, choose, seen, calls = built_plain(), random.Random(seed), Differences(), 0
+    for made in (calls_of_examples(program), drawn_calls(program, choose, count)):
+        for more, data in made:
+            # (`error words` is printed by the program alone)
+            wanted = answered([program, "judge", *more], data)
+            given = answered([plain, "judge", *more], data)
+            is_refused = (wanted[1], given[1]) == (2, 2)
+            seen.compare(wanted if is_refused else given, wanted, more, data)
+            seen.kinds[words_alone(wanted[0])] += 1
+            calls += 1
+    return seen.end(f"{calls} calls, of which {seen.count} differ")
+
+
 def words(parser):
+    parser.add_argument("--plain", action="store_true", help="compare the plain judge with the program")
     front.program(parser)
-    front.drawn(parser, 2_000, "inputs")
+    front.drawn(parser, 2_000, "inputs; with --plain plans")
 
 
 def main(given):
+    if given.plain:
+        return compare_plain(given.program, given.count, given.seed)
     choose, seen = random.Random(given.seed), Differences()
     for _ in range(given.count):
         delay, delay_words = random_delay(choose)

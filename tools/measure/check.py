@@ -25,18 +25,15 @@ workers, beside the default, and no plain program is run; the answers must agree
 engine be that it has more keys than shared cells hold.
 """
 
-import subprocess
 import sys
 
 from inputs.days import text
 from inputs.plans import KINDS
 from shared import front
 from shared.costs import in_turn, load, run, times
-from shared.places import TOOLS
+from shared.places import PLAIN, built_plain
 
 IN_TURN = 9
-PLAIN = TOOLS / "plain"
-BUILT = PLAIN / "target" / "release" / "plain"
 
 
 def beside(ran, plain):
@@ -51,17 +48,17 @@ def measured(kind, kept, points, given):
     head = f"{kind:9} {points:4} points"
     print(f"{head}: {ran.verdict()}, {ran}")
     for way in ("told", "blocks"):
-        plain = run([BUILT, way], plan)
+        plain = run([PLAIN, way], plan)
         print(f"{head}: {way} {plain.told}; {beside(ran, plain)}")
         if plain.answer != ran.answer:
             print(f"{head}: THE ANSWERS DIFFER")
     for way in ("closing", "forward", "morris") if given.verdicts else ():
-        alone = run([BUILT, way], plan)
+        alone = run([PLAIN, way], plan)
         print(f"{head}: {way} {beside(ran, alone)}")
         if alone.verdict() != ran.verdict():
             print(f"{head}: THE VERDICTS DIFFER")
     if points <= given.letter:
-        print(f"{head}: letter {beside(ran, run([BUILT, 'letter'], plan, 1))}")
+        print(f"{head}: letter {beside(ran, run([PLAIN, 'letter'], plan, 1))}")
     if given.workers:
         many = run([given.program, "check", f"--workers={given.workers}"], plan)
         quicker = f"{ran.seconds / many.seconds:.2f} times as quick as one by the wall"
@@ -116,7 +113,7 @@ def words(parser):
 
 def main(given):
     if not given.beside and not given.engine:
-        subprocess.run(["cargo", "build", "--release", "--quiet"], cwd=PLAIN, check=True)
+        built_plain()
     print(load())
     for kind in [given.kind] if given.kind else KINDS:
         for kept in (True, False):

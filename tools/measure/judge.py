@@ -16,19 +16,32 @@ peak of memory; how many bytes an entry takes beside the certificate as it was r
 same table with a first line that is refused; and the processor's seconds of `check` of its plan. Of
 `check --proof | judge` it prints the processor's seconds of each. Then how the time of full tables
 grows from the first number of points to the last.
+
+With --plain the program is measured beside the plain one of tools/plain (`plain judge`), which is
+built by `cargo build --release`: on the table proof of a chain that can be kept, of as many points
+as the first number of POINTS says (1,400, which is some 10^6 entries), and on the refutation of
+links in loops, of as many points as the second says (440, which is some 10^5 lines). They run in
+turn, five times each. Prints of each the medians of its wall and user seconds, the peak of memory
+of its own process, which is read while it runs, and the bytes that a line of the certificate adds
+to that of the plan alone; then how many times the user seconds and the memory of the plain one the
+program took. The answers must agree. The load of the machine comes first.
 """
 
 import os
+import statistics
 import subprocess
 import sys
+import tempfile
 import time
 
 from inputs.days import text as plan_text
 from inputs.plans import KINDS
 from shared import front
-from shared.costs import used
+from shared.costs import Ran, load, times, used
+from shared.places import PLAIN, built_plain
 
 BOUNDS = 20_000
+IN_TURN = 5
 
 
 class Bounds:
@@ -258,14 +271,82 @@ def report_tables(program, sizes):
             report_pipe(program, kind, points)
 
 
+def highest(pid):
+    """The peak of memory of a process in MiB so far, and 0 of one that has ended."""
+    try:
+        with open(f"/proc/{pid}/status", encoding="ascii") as status:
+            told = [line.split()[1] for line in status if line.startswith("VmHWM:")]
+    except ProcessLookupError:
+        told = []
+    return int(told[0]) / 1024 if told else 0
+
+
+def alone(command, path):
+    """Runs a program once on the input in a file. Its peak of memory is its own, not that of the
+    process that starts it."""
+    size, began = 0, time.monotonic()
+    with open(path, "rb") as data, subprocess.Popen(command, stdin=data, stdout=subprocess.PIPE) as child:
+        ended = 0
+        while not ended:
+            size = max(size, highest(child.pid))
+            ended, status, cost = os.wait4(child.pid, os.WNOHANG)
+            time.sleep(0 if ended else 0.0005)
+        seconds = time.monotonic() - began
+        child.returncode = os.waitstatus_to_exitcode(status)
+        return Ran(child.stdout.read(), seconds, cost.ru_utime, size, "")
+
+
+def median(runs):
+    """The medians of some runs; of the memory, of which a look may come too early, the greatest."""
+    seconds, user = (statistics.median(each) for each in zip(*((ran.seconds, ran.user) for ran in runs)))
+    return Ran(runs[0].answer, seconds, user, max(ran.size for ran in runs), "")
+
+
+def in_turn(commands, path):
+    """The medians of each command; they run in turn."""
+    runs = [[alone(command, path) for command in commands] for _ in range(IN_TURN)]
+    return [median(ran) for ran in zip(*runs)]
+
+
+def report_beside(program, kind, kept, points):
+    """Measures the program beside the plain one on the certificate of one plan."""
+    plan = plan_text(KINDS[kind](points, kept))
+    certificate = run([program, "check", "--proof"], plan)[1].partition(b"\n")[2]
+    lines = certificate.count(b"\n") - 3
+    commands = [[program, "judge"], [PLAIN, "judge"]]
+    with tempfile.NamedTemporaryFile() as short, tempfile.NamedTemporaryFile() as whole:
+        short.write(plan)
+        whole.write(plan + certificate)
+        short.flush()
+        whole.flush()
+        before, ran = in_turn(commands, short.name), in_turn(commands, whole.name)
+    head = f"{kind}, {points} points, {lines:,} lines"
+    for name, few, many in zip(("the program", "plain"), before, ran):
+        told = f"{(many.size - few.size) * 2**20 / lines:.0f} bytes a line"
+        print(f"{head}: {name}: {many.verdict()}, {many}, {told}")
+    ours, plain = ran
+    print(f"{head}: {times(ours, plain):.2f} times the user seconds of plain, {ours.size / plain.size:.2f} as large", flush=True)
+    if ours.answer != plain.answer:
+        print(f"{head}: THE ANSWERS DIFFER")
+
+
 def words(parser):
-    parser.add_argument("--tables", action="store_true", help="of table proofs")
+    either = parser.add_mutually_exclusive_group()
+    either.add_argument("--tables", action="store_true", help="of table proofs")
+    either.add_argument("--plain", action="store_true", help="beside the plain program")
     front.program(parser)
-    about = "how many lines the longest refutation has; with --tables how many points the plans have"
+    about = "how many lines the longest refutation has; with --tables and --plain how many points the plans have"
     parser.add_argument("numbers", type=int, nargs="*", metavar="LINES|POINTS", help=about)
 
 
 def main(given):
+    if given.plain:
+        chain, loops = given.numbers or (1400, 440)
+        built_plain()
+        print(load())
+        report_beside(given.program, "chain", True, chain)
+        report_beside(given.program, "loops", False, loops)
+        return
     if given.tables:
         report_tables(given.program, given.numbers or [200, 500, 1000])
         return
