@@ -203,15 +203,15 @@ impl Proof<'_> {
     }
 }
 
-/// The words of a row as those of first premises: below 0 they count as 0. That of an absent one is still beyond `ABSENT` with a weight added.
+/// The words of a row as those of first premises: below 0 they count as 0. That of an absent one is beyond `ABSENT` with a weight, too.
 fn as_firsts(row: &[i64]) -> Vec<i64> {
     row.iter()
         .map(|&word| if word == ABSENT { 2 * ABSENT } else { word.max(0) })
         .collect()
 }
 
-/// Whether, at some point, the word of a first premise and this weight go below the word of another row. All differences are looked at: one
-/// of them is below 0 if they have the sign in common, and a processor takes several at once.
+/// Whether, at some point, the word of a first premise and this weight go below the word of another row. All differences are looked at, and
+/// a processor takes several at once: the sign of all of them together is set if one of them is below 0.
 fn goes_below(firsts: &[i64], weight: i64, row: &[i64]) -> bool {
     firsts
         .iter()

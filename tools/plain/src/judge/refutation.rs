@@ -5,8 +5,8 @@ use super::text::{integer, natural, Fault, Line, Lines};
 use super::{Edge, Names, Stop, MOST_WRITTEN_WEIGHT};
 use std::io::BufRead;
 
-/// The rule of a line, with what it names. A line joins two others by `no` or `up`, and goes back over a link by `low` or `cross`, as it has
-/// a label or none.
+/// The rule of a line, with what it names. A line joins two others by `no` or `up`, and goes back over a link by `low` or `cross`, as it
+/// has a label or none.
 enum Rule {
     Bound(u16),
     Link(u16),
