@@ -1,4 +1,4 @@
-"""Where things stand in the repository."""
+"""Where things stand in the repository, and the plain program, built."""
 
 import subprocess
 from pathlib import Path
