@@ -72,6 +72,19 @@ def chains():
     yield "end"
 
 
+# How many links the plan below has. Its table has two rows for the points of each link, and one for its label.
+LINKS = 130
+
+
+def links():
+    """A plan of links, each between two points of its own, of which no more is closed than the base."""
+    yield "stnu 1"
+    for i in range(LINKS):
+        yield from [f"point a{i}", f"point c{i}"]
+    yield from (f"link a{i} 1 9 c{i}" for i in range(LINKS))
+    yield "end"
+
+
 # How many plans a fleet has.
 PLANS = 5
 
@@ -110,6 +123,8 @@ EDITS = ["set bound after1 -2", "set bound after2 -3"]
 
 CALLS = [
     Call("check", ["check"], [*plan()], 0, 1, TESTERS),
+    # The closure is not made, whose table would be tested once more.
+    Call("check of links", ["check"], [*links()], 0, 1, 3 * LINKS // 64),
     Call("check --proof", ["check", "--proof"], [*plan()], 0, 1, TESTERS),
     Call("check of a plan that cannot be kept", ["check"], [*plan(BROKEN)], 1, 1, MOST),
     Call("check --engine cells", ["check", "--engine", "cells"], FEW, 0, 1, MOST),

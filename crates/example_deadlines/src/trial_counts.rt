@@ -66,3 +66,17 @@ fn bound_is_tried_at_once(rt: HostRuntime) -> Result<(), Fail> {
     assert!(rt; second == 3 && other == 1, "{second} {other}");
     Ok(())
 }
+
+/// If the least number is far above the guess, which takes each duration for the longest, the steps
+/// to it double: the 999 numbers between are not all tried.
+#[test]
+fn far_number_is_reached_by_doubled_steps(rt: HostRuntime) -> Result<(), Fail> {
+    let (second, _) = calls(
+        &rt,
+        rt.alloc(),
+        "point C|point A|link A 1 1000 C",
+        ("C", "A"),
+    )?;
+    assert!(rt; second < 100, "{second}");
+    Ok(())
+}
