@@ -1,7 +1,6 @@
 -- Slots of two rows side by side: one in which all is relaxed, and one in which the best candidates alone are relaxed.
-use Rattle.std.proofs.Common.{◌≡◌, ℕ, zero, suc, ℤ, ◌≤ℤ◌, ◌<ℤ◌, ◌==◌, ◌&&◌, Bool, true, false, ◌⊎◌, List, [], ◌∷◌, map, fold, Option, Some, refl, ap, sym, subst, ◌∙◌, inl, inr, arith}
-use Rattle.std.specs.Prelude.{slice_get, int_lt}
-use Rattle.std.specs.Option.{option_map_or}
+use Rattle.std.proofs.Common.{◌≡◌, ℕ, ℤ, ◌≤ℤ◌, ◌<ℤ◌, ◌==◌, ◌&&◌, Bool, true, false, ◌⊎◌, List, [], ◌∷◌, fold, Option, Some, refl, ap, sym, subst, ◌∙◌, inl, inr}
+use Rattle.std.specs.Prelude.{slice_get}
 use Rattle.std.specs.List.{Contains}
 use Rattle.std.proofs.lemmas.Option.{same_Some}
 use Rattle.net_model.specs.declared.ids.LinkId.{LinkId}
@@ -14,76 +13,16 @@ use Rattle.closure_model.specs.PrunedRows.{IsThinned, at_end, keeps, leaves, is_
 use Rattle.closure_model.specs.declared.rows.Made.{Made}
 use Rattle.closure_model.specs.declared.rows.Slot.{Slot}
 use Rattle.closure_model.proofs.Lists.{Contains-head, Contains-tail, Contains-cases}
-use Rattle.closure_model.proofs.Slots.{key_in, slot_of_key, Change, stays, takes, relaxed_one, relaxed_change, relaxed_at, was_slot, change_key, change_settled, key_of_slot, above, not_above}
+use Rattle.closure_model.proofs.NextSlots.{IsLow}
+use Rattle.closure_model.proofs.SettledSlots.{marked}
+use Rattle.closure_model.proofs.Slots.{key_in, slot_of_key, Change, stays, takes, relaxed_one, relaxed_change, relaxed_at, was_slot, change_settled, key_of_slot, above, not_above}
 use Rattle.closure_model.proofs.TableLemmas.{at_most_gives}
-use Rattle.closure_model.proofs.Weights.{le_then, lt_then, lt_is_le, not_below, lt_false, same_weight}
+use Rattle.closure_model.proofs.VainRelaxations.{not_taken, holds_it, IsUnder}
+use Rattle.closure_model.proofs.Weights.{le_then, lt_then, lt_is_le, not_below, same_weight}
 use Rattle.back_propagation.specs.BestKeys.{LeadsTo}
 
--- ---- lists
-same_map : {X : Type 0} (f : X → X) (xs : List X) → ((k : ℕ) (x : X) → slice_get xs k ≡ Some x → f x ≡ x) → map f xs ≡ xs
-same_map f [] each = refl
-same_map f (x ∷ xs) each = let here = each 0 x refl in let rest = same_map f xs (λ k y at. each (suc k) y at) in λ i. here i ∷ rest i
-
-abbrev pub marked : Slot → Slot
-marked slot = record slot { settled = true }
-
--- a slot that has a weight which is no greater than that of a relaxation stays as it is
-pub not_taken : (made : Made) (slot : Slot) → has_above slot made.edge.weight ≡ false → relaxed_one made slot ≡ slot
-not_taken made slot not = by (relaxed_one made slot) (relaxed_change made slot)
-  where
-    by : (after : Slot) → Change made slot after → after ≡ slot
-    by after (stays is not') = sym is
-    by after (takes of is_above is) = absurd cc
-
-pub holds_it : (slot : Slot) (weight old : ℤ) → slot.weight ≡ Some old → old ≤ℤ weight → has_above slot weight ≡ false
-holds_it slot weight old has less = ap (λ (o : Option ℤ). option_map_or (λ (w : ℤ). int_lt weight w) o true) has ∙ lt_false weight old less
-
--- ---- what is saturated in the table is relaxed in vain
+-- ---- what relaxes in vain
 module _ (table : Graph) (to : PointId) where
-  -- each slot is at most what the table has of its key
-  abbrev pub IsUnder : List Slot → Type 0
-  IsUnder slots = (place : ℕ) (slot : Slot) (old : ℤ) → slice_get slots place ≡ Some slot → weight_of table (key_in to slot) ≡ Some old → (weight : ℤ) × (slot.weight ≡ Some weight) × (weight ≤ℤ old)
-
-  pub under_relaxed : (slots : List Slot) (made : Made) → IsUnder slots → IsUnder (relaxed slots made)
-  under_relaxed slots made under place after old there has = let was = was_slot slots made place after there in by was.slot was.here was.change
-    where
-      by : (slot : Slot) → slice_get slots place ≡ Some slot → Change made slot after → (weight : ℤ) × (after.weight ≡ Some weight) × (weight ≤ℤ old)
-      by slot here (stays is not) = under place after old (here ∙ ap Some is) has
-      by slot here (takes of is_above is) =
-          let key : key_in to after ≡ key_in to slot = change_key to made slot after (takes of is_above is) in
-          let (weight, had, less) = under place slot old here (ap (weight_of table) (sym key) ∙ has) in
-          let below : made.edge.weight <ℤ weight = above slot made.edge.weight weight is_above had in
-          (made.edge.weight, ap (λ (s : Slot). s.weight) (sym is), lt_is_le made.edge.weight old (lt_then made.edge.weight weight old below less))
-
-  in_vain : (slots : List Slot) (made : Made) → IsUnder slots → made.edge.to ≡ to → HasAtMost table made.edge → relaxed slots made ≡ slots
-  in_vain slots made under ends met = same_map (relaxed_one made) slots stay
-    where
-      stay : (k : ℕ) (slot : Slot) → slice_get slots k ≡ Some slot → relaxed_one made slot ≡ slot
-      stay k slot here = by (relaxed_one made slot) (relaxed_change made slot)
-        where
-          by : (after : Slot) → Change made slot after → after ≡ slot
-          by after (stays is not) = sym is
-          by after (takes of is_above is) =
-              let (old, has, less) = at_most_gives table made.edge met in
-              let (weight, had, under') = under k slot old here (ap (weight_of table) (slot_of_key to made.edge slot ends of) ∙ has) in
-              let not = holds_it slot made.edge.weight weight had (le_then weight old made.edge.weight under' less) in absurd cc
-
-  -- so the relaxations of a list are those of a list with fewer edges
-  pub thinned_relaxations : (all few : List Made) (slots : List Slot) → IsUnder slots → ((made : Made) → Contains all made → made.edge.to ≡ to) → IsThinned table all few → fold relaxed slots all ≡ fold relaxed slots few
-  thinned_relaxations _ _ slots under ends at_end = refl
-  thinned_relaxations _ _ slots under ends (keeps made all few rest) =
-      thinned_relaxations all few (relaxed slots made) (under_relaxed slots made under) (λ one inside. ends one (Contains-tail made all one inside)) rest
-  thinned_relaxations _ _ slots under ends (leaves made all few met rest) =
-      ap (λ (s : List Slot). fold relaxed s all) (in_vain slots made under (ends made (Contains-head made all)) met)
-      ∙ thinned_relaxations all few slots under (λ one inside. ends one (Contains-tail made all one inside)) rest
-
-  -- what stays of a thinned list
-  pub thinned_from : (all few : List Made) → IsThinned table all few → (made : Made) → Contains few made → Contains all made
-  thinned_from _ _ at_end made inside = inside
-  thinned_from _ _ (keeps one all few rest) made (zero, within, at) = subst (Contains (one ∷ all)) at (Contains-head one all)
-  thinned_from _ _ (keeps one all few rest) made (suc k, within, at) = Contains-tail one all made (thinned_from all few rest made (k, omega arith, at))
-  thinned_from _ _ (leaves one all few met rest) made inside = Contains-tail one all made (thinned_from all few rest made inside)
-
   -- what the table does not meet stays
   pub thinned_keeps : (all few : List Made) → IsThinned table all few → (made : Made) → (HasAtMost table made.edge → ⊥) → Contains all made → Contains few made
   thinned_keeps _ _ at_end made unsaturated inside = inside
@@ -114,29 +53,26 @@ module _ (table : Graph) (to : PointId) where
           holds_it after made.edge.weight other.edge.weight (ap (λ (s : Slot). s.weight) (sym is)) (lt_is_le other.edge.weight made.edge.weight (lt_then other.edge.weight old made.edge.weight below less))
 
   -- no slot is above what is saturated in the table
-  pub met_vain : (slots : List Slot) (made : Made) → IsUnder slots → made.edge.to ≡ to → HasAtMost table made.edge → IsVain slots made
+  pub met_vain : (slots : List Slot) (made : Made) → IsUnder table to slots → made.edge.to ≡ to → HasAtMost table made.edge → IsVain slots made
   met_vain slots made under ends met place slot here of =
       let (old, has, less) = at_most_gives table made.edge met in
       let (weight, had, under') = under place slot old here (ap (weight_of table) (slot_of_key to made.edge slot ends of) ∙ has) in
       holds_it slot made.edge.weight weight had (le_then weight old made.edge.weight under' less)
 
-  -- what is settled has at most a weight
-  abbrev pub IsLow : ℤ → List Slot → Type 0
-  IsLow low slots = (place : ℕ) (slot : Slot) → slice_get slots place ≡ Some slot → slot.settled ≡ true → (weight : ℤ) × (slot.weight ≡ Some weight) × (weight ≤ℤ low)
+-- ---- what is settled is not relaxed
+pub settled_stay : (low : ℤ) (made : Made) (slots : List Slot) → low ≤ℤ made.edge.weight → IsLow low slots → (place : ℕ) (slot : Slot) → slice_get slots place ≡ Some slot → slot.settled ≡ true → has_above slot made.edge.weight ≡ false
+settled_stay low made slots more is_low place slot here settled =
+    let (weight, has, less) = is_low place slot here settled in
+    holds_it slot made.edge.weight weight has (le_then weight low made.edge.weight less more)
 
-  pub settled_stay : (low : ℤ) (made : Made) (slots : List Slot) → low ≤ℤ made.edge.weight → IsLow low slots → (place : ℕ) (slot : Slot) → slice_get slots place ≡ Some slot → slot.settled ≡ true → has_above slot made.edge.weight ≡ false
-  settled_stay low made slots more is_low place slot here settled =
-      let (weight, has, less) = is_low place slot here settled in
-      holds_it slot made.edge.weight weight has (le_then weight low made.edge.weight less more)
-
-  low_relaxed : (low : ℤ) (made : Made) (slots : List Slot) → low ≤ℤ made.edge.weight → IsLow low slots → IsLow low (relaxed slots made)
-  low_relaxed low made slots more is_low place after there settled = let was = was_slot slots made place after there in by was.slot was.here was.change
-    where
-      by : (slot : Slot) → slice_get slots place ≡ Some slot → Change made slot after → (weight : ℤ) × (after.weight ≡ Some weight) × (weight ≤ℤ low)
-      by slot here (stays is not) = is_low place after (here ∙ ap Some is) settled
-      by slot here (takes of is_above is) =
-          let was_settled : slot.settled ≡ true = ap (λ (s : Slot). s.settled) is ∙ settled in
-          let not = settled_stay low made slots more is_low place slot here was_settled in absurd cc
+low_relaxed : (low : ℤ) (made : Made) (slots : List Slot) → low ≤ℤ made.edge.weight → IsLow low slots → IsLow low (relaxed slots made)
+low_relaxed low made slots more is_low place after there settled = let was = was_slot slots made place after there in by was.slot was.here was.change
+  where
+    by : (slot : Slot) → slice_get slots place ≡ Some slot → Change made slot after → (weight : ℤ) × (after.weight ≡ Some weight) × (weight ≤ℤ low)
+    by slot here (stays is not) = is_low place after (here ∙ ap Some is) settled
+    by slot here (takes of is_above is) =
+        let was_settled : slot.settled ≡ true = ap (λ (s : Slot). s.settled) is ∙ settled in
+        let not = settled_stay low made slots more is_low place slot here was_settled in absurd cc
 
 -- ---- two rows side by side
 module _ (table : Graph) (to : PointId) (delta : List (List Edge)) (begins : ℕ → Bool) where
@@ -272,7 +208,7 @@ module _ (table : Graph) (to : PointId) (delta : List (List Edge)) (begins : ℕ
         subst (λ (s : Slot). IsAlike (relaxed ones made) list place s (relaxed_one made other)) (sym kept_one) (subst (λ (s : Slot). IsAlike (relaxed ones made) list place one s) (sym kept_other) (passed is open_slot dead weight has))
     both_alike one other not (awaits await) = await_both one other (relaxed_one made one) (relaxed_one made other) await (relaxed_change made one) (relaxed_change made other)
 
-  relaxed_alike : (low : ℤ) (made : Made) (list : List Made) (ones others : List Slot) → low ≤ℤ made.edge.weight → IsLow table to low ones → AreAlike ones (made ∷ list) others → AreAlike (relaxed ones made) list (relaxed others made)
+  relaxed_alike : (low : ℤ) (made : Made) (list : List Made) (ones others : List Slot) → low ≤ℤ made.edge.weight → IsLow low ones → AreAlike ones (made ∷ list) others → AreAlike (relaxed ones made) list (relaxed others made)
   relaxed_alike low made list ones others more is_low alike = record { there = there; back = back }
     where
       there : (place : ℕ) (after : Slot) → slice_get (relaxed ones made) place ≡ Some after → (other : Slot) × (slice_get (relaxed others made) place ≡ Some other) × IsAlike (relaxed ones made) list place after other
@@ -282,7 +218,7 @@ module _ (table : Graph) (to : PointId) (delta : List (List Edge)) (begins : ℕ
           let new : relaxed_one made was.slot ≡ after = same_Some (relaxed_one made was.slot) after (sym (relaxed_at ones made place was.slot was.here) ∙ at) in (
             relaxed_one made other,
             relaxed_at others made place other here,
-            subst (λ (s : Slot). IsAlike (relaxed ones made) list place s (relaxed_one made other)) new (both_alike made list ones place was.slot other (settled_stay table to low made ones more is_low place was.slot was.here) is),
+            subst (λ (s : Slot). IsAlike (relaxed ones made) list place s (relaxed_one made other)) new (both_alike made list ones place was.slot other (settled_stay low made ones more is_low place was.slot was.here) is),
           )
 
       back : (place : ℕ) (after : Slot) → slice_get (relaxed others made) place ≡ Some after → (one : Slot) × (slice_get (relaxed ones made) place ≡ Some one) × IsAlike (relaxed ones made) list place one after
@@ -292,14 +228,14 @@ module _ (table : Graph) (to : PointId) (delta : List (List Edge)) (begins : ℕ
           let new : relaxed_one made was.slot ≡ after = same_Some (relaxed_one made was.slot) after (sym (relaxed_at others made place was.slot was.here) ∙ at) in (
             relaxed_one made one,
             relaxed_at ones made place one here,
-            subst (λ (s : Slot). IsAlike (relaxed ones made) list place (relaxed_one made one) s) new (both_alike made list ones place one was.slot (settled_stay table to low made ones more is_low place one here) is),
+            subst (λ (s : Slot). IsAlike (relaxed ones made) list place (relaxed_one made one) s) new (both_alike made list ones place one was.slot (settled_stay low made ones more is_low place one here) is),
           )
 
-  pub relaxes_alike : (low : ℤ) (list : List Made) (ones others : List Slot) → ((made : Made) → Contains list made → low ≤ℤ made.edge.weight) → IsLow table to low ones → AreAlike ones list others
+  pub relaxes_alike : (low : ℤ) (list : List Made) (ones others : List Slot) → ((made : Made) → Contains list made → low ≤ℤ made.edge.weight) → IsLow low ones → AreAlike ones list others
       → AreAlike (fold relaxed ones list) [] (fold relaxed others list)
   relaxes_alike low [] ones others each is_low alike = alike
   relaxes_alike low (made ∷ list) ones others each is_low alike =
-      relaxes_alike low list (relaxed ones made) (relaxed others made) (λ one inside. each one (Contains-tail made list one inside)) (low_relaxed table to low made ones (each made (Contains-head made list)) is_low)
+      relaxes_alike low list (relaxed ones made) (relaxed others made) (λ one inside. each one (Contains-tail made list one inside)) (low_relaxed low made ones (each made (Contains-head made list)) is_low)
       (relaxed_alike low made list ones others (each made (Contains-head made list)) is_low alike)
 
   -- ---- what is relaxed in the first alone: it is in vain, or less is pending
@@ -310,7 +246,7 @@ module _ (table : Graph) (to : PointId) (delta : List (List Edge)) (begins : ℕ
   spared_relaxed ones made other (inl vain) = inl (vain_relaxed table to ones made other vain)
   spared_relaxed ones made other (inr pending) = inr (promise_relaxed ones other made.edge.from made.edge.label made.edge.weight pending)
 
-  module _ (low : ℤ) (made : Made) (ones : List Slot) (more : low ≤ℤ made.edge.weight) (is_low : IsLow table to low ones) (ends : made.edge.to ≡ to) where
+  module _ (low : ℤ) (made : Made) (ones : List Slot) (more : low ≤ℤ made.edge.weight) (is_low : IsLow low ones) (ends : made.edge.to ≡ to) where
     -- a slot that stays
     stays_alike : (place : ℕ) (one other : Slot) → IsAlike ones [] place one other → IsAlike (relaxed ones made) [] place one other
     stays_alike place one other (same is) = same is
@@ -353,7 +289,7 @@ module _ (table : Graph) (to : PointId) (delta : List (List Edge)) (begins : ℕ
         })
 
         by : (b : Bool) → one.settled ≡ b → IsAlike ones [] place one other → IsAlike (relaxed ones made) [] place after other
-        by true settled was = let not = settled_stay table to low made ones more is_low place one here settled in absurd cc
+        by true settled was = let not = settled_stay low made ones more is_low place one here settled in absurd cc
         by false open_one (same is') =
             pending_key open_one (ap (λ (s : Slot). s.settled) (sym is') ∙ open_one) (ap (λ (s : Slot). s.from) is') (ap (λ (s : Slot). s.label) is')
             (λ held has. lt_is_le made.edge.weight held (above one made.edge.weight held is_above (ap (λ (s : Slot). s.weight) is' ∙ has)))
@@ -385,11 +321,11 @@ module _ (table : Graph) (to : PointId) (delta : List (List Edge)) (begins : ℕ
             let (one, here, is) = alike.back place other at in
             (relaxed_one made one, relaxed_at ones made place one here, one_alone spared place one other here is)
 
-  pub alone_all : (low : ℤ) (list : List Made) (ones others : List Slot) → ((made : Made) → Contains list made → (low ≤ℤ made.edge.weight) × (made.edge.to ≡ to) × IsSpared ones made) → IsLow table to low ones → AreAlike ones [] others
+  pub alone_all : (low : ℤ) (list : List Made) (ones others : List Slot) → ((made : Made) → Contains list made → (low ≤ℤ made.edge.weight) × (made.edge.to ≡ to) × IsSpared ones made) → IsLow low ones → AreAlike ones [] others
       → AreAlike (fold relaxed ones list) [] others
   alone_all low [] ones others each is_low alike = alike
   alone_all low (made ∷ list) ones others each is_low alike =
       let (more, ends, spared) = each made (Contains-head made list) in
       alone_all low list (relaxed ones made) others
       (λ one inside. let (more', ends', spared') = each one (Contains-tail made list one inside) in (more', ends', spared_relaxed ones one made spared'))
-      (low_relaxed table to low made ones more is_low) (alone_alike low made ones more is_low ends others spared alike)
+      (low_relaxed low made ones more is_low) (alone_alike low made ones more is_low ends others spared alike)

@@ -1,59 +1,53 @@
 -- A row that is seeded with the best candidates alone is the reference row: what is not relaxed is below no slot when that is settled.
-use Rattle.std.proofs.Common.{◌≡◌, ◌≢◌, ℕ, zero, suc, ◌<◌, ◌≤◌, ℤ, pos, ◌≤ℤ◌, ◌<ℤ◌, ◌+ℤ◌, ◌==◌, ◌&&◌, ◌||◌, Bool, true, false, cond, ◌⊎◌, List, [], ◌∷◌, ◌++◌, map, fold, Option, Some, None, refl, ap, sym, subst, ◌∙◌, inl, inr, arith}
+use Rattle.std.proofs.Common.{◌≡◌, ◌≢◌, ℕ, zero, suc, ◌<◌, ◌≤◌, ℤ, pos, ◌≤ℤ◌, ◌<ℤ◌, ◌+ℤ◌, ◌==◌, ◌&&◌, ◌||◌, Bool, true, false, cond, ◌⊎◌, List, [], ◌∷◌, ◌++◌, map, Option, Some, None, refl, ap, sym, subst, ◌∙◌, inl, inr, arith}
 use Rattle.std.proofs.Common.{is_some, is_none}
 use Rattle.std.specs.Prelude.{slice_get, slice_set}
 use Rattle.std.specs.Int.{int_max}
 use Rattle.std.specs.Option.{option_map, option_map_or}
 use Rattle.std.specs.List.{Contains, flat_map}
-use Rattle.std.proofs.lemmas.Bool.{eqb-true}
+use Rattle.std.proofs.lemmas.Bool.{eqb-true, and_parts}
 use Rattle.std.proofs.lemmas.Bool.Decides.{nat_tests}
 use Rattle.std.proofs.lemmas.Int.{ints, clamps}
 use Rattle.std.proofs.lemmas.List.{append-nil}
-use Rattle.std.proofs.lemmas.List.Elements.{All-contains, Contains-append_cases}
+use Rattle.std.proofs.lemmas.List.Elements.{Contains-append_cases}
 use Rattle.std.proofs.lemmas.Option.{slice_get-map, same_Some}
-use Rattle.net_model.specs.Network.{Plan, IsPlan, IsLink}
-use Rattle.net_model.specs.Edges.{IsLinkOf}
+use Rattle.net_model.specs.Network.{Plan, IsPlan}
 use Rattle.net_model.specs.Rules.{is_ordinary, is_labelled, meet, is_negative, joined_weight, no_case, upper_case}
 use Rattle.net_model.specs.declared.ids.LinkId.{LinkId}
 use Rattle.net_model.specs.declared.ids.PointId.{PointId}
 use Rattle.net_model.specs.declared.part.Edge.{Edge}
-use Rattle.net_model.specs.declared.part.Link.{Link}
-use Rattle.net_model.proofs.RuleLemmas.{no_case_gives, upper_case_gives, lower_case_gives, cross_case_gives, removal_gives}
+use Rattle.net_model.proofs.RuleLemmas.{no_case_gives, upper_case_gives}
+use Rattle.net_model.proofs.AppliedRuleLemmas.{negative_holds}
 use Rattle.reduction_rules.specs.Applies.{joined}
 use Rattle.closure_model.specs.Keys.{Key, key_of, edge_of, row_keys}
 use Rattle.closure_model.specs.DeltaEdges.{delta_at, AreOfTable, IsSaturatedBut}
 use Rattle.closure_model.specs.Least.{weight_at}
 use Rattle.closure_model.specs.PrunedRows.{IsThinned, is_live, IsNextLive, IsAllDone, pruned_after}
-use Rattle.closure_model.specs.ReferenceRow.{has_above, is_slot_of, relaxed, given, from_first, edge_in, improved, open_weight, next_slot, consequences, first_slot, first_slots, reference_row, Making, IsInRow}
+use Rattle.closure_model.specs.ReferenceRow.{has_above, is_slot_of, given, from_first, edge_in, improved, open_weight, next_slot, consequences, first_slots, reference_row, Making, IsInRow}
 use Rattle.closure_model.specs.Tables.{Graph, HasEdge, weight_of, HasAtMost, has_at_most, IsFor, IsGraph}
 use Rattle.closure_model.specs.declared.rows.Made.{Made}
 use Rattle.closure_model.specs.declared.rows.Slot.{Slot}
 use Rattle.closure_model.specs.declared.rows.Why.{Why}
 use Rattle.closure_model.specs.declared.rows.Why.TheVariants.{No, Up}
-use Rattle.closure_model.proofs.Consequences.{IsConsequence, removed, moved, crossed, joined as joined_plainly, joined_labelled, consequence_is, no_case_stands, upper_case_stands}
+use Rattle.closure_model.proofs.Consequences.{no_case_stands, upper_case_stands}
 use Rattle.closure_model.proofs.FirstLeast.{FirstIs, first_least-is}
 use Rattle.closure_model.proofs.KeyLists.{row_keys_rise}
 use Rattle.closure_model.proofs.KeyPlaces.{only_place}
 use Rattle.closure_model.proofs.Lists.{Contains-none, Contains-flat_map_from}
-use Rattle.closure_model.proofs.Nodes.{listed_at}
-use Rattle.closure_model.proofs.RowEdges.{IsMaking}
-use Rattle.closure_model.proofs.RowRun.{IsUnderWay, under_way_first, under_way_done, under_way_next, next_there, fewer_after}
+use Rattle.closure_model.proofs.NextSlots.{unimproved_at_first, making_of, under_way, under_marked, next_open, next_weight, progress_after, fewer, low_marked, few_not_less, relaxes_are}
+use Rattle.closure_model.proofs.RowRun.{IsUnderWay, under_way_first, under_way_done, next_there}
 use Rattle.closure_model.proofs.RowSteps.{unsettled, after_slot}
-use Rattle.closure_model.proofs.RuleSteps.{no_case_lengthens, upper_case_lengthens, lower_case_lengthens, cross_case_lengthens, removal_lengthens}
+use Rattle.closure_model.proofs.SettledSlots.{marked, was_marked, open_weight_at}
 use Rattle.closure_model.proofs.Slots.{some_of_map, set_same, set_other, key_in, slot_of_key, IsMet}
 use Rattle.closure_model.proofs.TableLemmas.{at_most_gives, at_most_tested}
 use Rattle.closure_model.proofs.ThinnedLemmas.{given_is}
+use Rattle.closure_model.proofs.VainRelaxations.{holds_it}
 use Rattle.closure_model.proofs.Weights.{le_then, lt_then, le_then_lt, lt_is_le, le_of_same, between as meeting_weights, not_below, same_weight}
+use Rattle.closure_model.proofs.RuleSteps.{joined_not_less}
 use Rattle.back_propagation.specs.DeltaRows.{goes_before}
 use Rattle.back_propagation.specs.BestKeys.{LeadsTo, IsOutdone, IsSeededWithBest}
-use Rattle.back_propagation.proofs.BestRelaxations.{marked, holds_it, IsUnder, thinned_relaxations, thinned_from, thinned_keeps, IsVain, met_vain, IsLow, HasPendingWeight, IsDue, IsPendingKey, IsAlike, same, passed, awaits, AreAlike}
+use Rattle.back_propagation.proofs.BestRelaxations.{thinned_keeps, IsVain, met_vain, HasPendingWeight, IsDue, IsPendingKey, IsAlike, same, passed, awaits, AreAlike}
 use Rattle.back_propagation.proofs.BestRelaxations.{alike_itself, relaxes_alike, IsSpared, alone_all}
-
--- no slot of the table has improved
-first_no_why : (table : Graph) (keys : List Key) (place : ℕ) (slot : Slot) → slice_get (map (first_slot table) keys) place ≡ Some slot → slot.why ≡ None
-first_no_why table [] place slot at = absurd cc
-first_no_why table (key ∷ keys) zero slot at = ap (λ (s : Slot). s.why) (sym (same_Some (first_slot table key) slot at))
-first_no_why table (key ∷ keys) (suc place) slot at = first_no_why table keys place slot at
 
 -- ---- what follows over an ordinary edge and a negative one
 all_true : (a b c d : Bool) → a ≡ true → b ≡ true → c ≡ true → d ≡ true → (a && b && c && d) ≡ true
@@ -72,23 +66,16 @@ upper_case_is first second one two three four =
     ap (λ (b : Bool). cond b (Some (record { from = first.from; to = second.to; label = second.label; weight = joined_weight first second })) None)
     (all_true (is_ordinary first) (is_labelled second) (meet first second) (is_negative second) one two three four)
 
-and_both : (a b : Bool) → (a && b) ≡ true → (a ≡ true) × (b ≡ true)
-and_both true b holds = (refl, holds)
-and_both false b holds = absurd cc
-
-negative_test : (edge : Edge) → edge.weight <ℤ pos 0 → is_negative edge ≡ true
-negative_test edge below = grind (arith, ints)
-
 candidate_follows : (net : Plan) (table : Graph) → IsGraph table → (first premise : Edge) → HasEdge table first → goes_before first premise ≡ true → premise.weight <ℤ pos 0
     → (made : Made) × Contains (consequences net table premise) made × (made.edge ≡ joined first premise)
 candidate_follows net table sound first premise held before below = by premise.label refl
   where
     parts : (is_ordinary first ≡ true) × (meet first premise ≡ true)
-    parts = and_both (is_ordinary first) (meet first premise) before
+    parts = and_parts (is_ordinary first) (meet first premise) before
 
     by : (label : Option LinkId) → premise.label ≡ label → (made : Made) × Contains (consequences net table premise) made × (made.edge ≡ joined first premise)
-    by None none = no_case_stands net table premise sound first (joined first premise) held (no_case_is first premise parts.0 (ap is_none none) parts.1 (negative_test premise below) none)
-    by (Some label) some = upper_case_stands net table premise sound first (joined first premise) held (upper_case_is first premise parts.0 (ap is_some some) parts.1 (negative_test premise below))
+    by None none = no_case_stands net table premise sound first (joined first premise) held (no_case_is first premise parts.0 (ap is_none none) parts.1 (negative_holds premise below) none)
+    by (Some label) some = upper_case_stands net table premise sound first (joined first premise) held (upper_case_is first premise parts.0 (ap is_some some) parts.1 (negative_holds premise below))
 
 -- what a rule gives with a first premise is the candidate over both
 from_first_is : (first premise : Edge) (made : Made) → Contains (from_first premise first) made → (made.edge ≡ joined first premise) × (goes_before first premise ≡ true) × (premise.weight <ℤ pos 0)
@@ -109,17 +96,11 @@ from_first_is first premise made inside = by (Contains-append_cases (given (No f
         let gives = upper_case_gives first premise made.edge (given_is (Up first premise) (upper_case first premise) made here) in
         (sym gives.is, before gives.first_ordinary gives.meeting, gives.negative)
 
-over_not_less : (first weight : ℤ) → weight ≤ℤ (int_max first (pos 0) +ℤ weight)
-over_not_less first weight = grind (arith, ints, clamps)
-
 over_less : (first weight recorded : ℤ) → weight ≤ℤ recorded → (int_max first (pos 0) +ℤ weight) ≤ℤ (int_max first (pos 0) +ℤ recorded)
 over_less first weight recorded less = grind (arith, ints, clamps)
 
 same_then_lt : (a b c d : ℤ) → a ≡ b → b ≤ℤ c → c ≤ℤ d → d <ℤ a → a <ℤ a
 same_then_lt a b c d equal one two below = grind (arith, ints)
-
-opens : (slots : List Slot) (place : ℕ) (slot : Slot) (weight : ℤ) → slice_get slots place ≡ Some slot → slot.settled ≡ false → slot.weight ≡ Some weight → weight_at open_weight slots place ≡ Some weight
-opens slots place slot weight here is_open has = rw here (ap (λ (b : Bool). cond b None slot.weight) is_open ∙ has)
 
 same_then : (a b c : ℤ) → a ≡ b → b ≤ℤ c → a ≤ℤ c
 same_then a b c equal less = grind (arith, ints)
@@ -127,18 +108,6 @@ same_then a b c equal less = grind (arith, ints)
 -- ---- the two rows side by side
 module _ (net : Plan) (table : Graph) (to : PointId) (delta : List (List Edge)) (begins : ℕ → Bool) (plan : IsPlan net) (fits : IsFor net table) (sound : IsGraph table) (of_table : AreOfTable table delta)
     (met : IsSaturatedBut net table to delta) (best : IsSeededWithBest table to delta begins) where
-  link_positive : (name : LinkId) (link : Link) → IsLinkOf net name link → IsLink net link
-  link_positive name link declared = All-contains (IsLink net) net.links link plan.links_sound (listed_at net.links name.0 link declared)
-
-  follows_not_less : (premise : Edge) (made : Made) → IsConsequence net table premise made → (premise.weight ≤ℤ made.edge.weight) × (made.edge.to ≡ premise.to)
-  follows_not_less premise made (removed is why) = let long = removal_lengthens net premise made.edge (removal_gives net premise made.edge is) in (long.not_less, long.ends)
-  follows_not_less premise made (moved name is why) =
-      let gives = lower_case_gives net name premise made.edge is in let long = lower_case_lengthens net name premise made.edge gives (link_positive name gives.link gives.declared).positive in (long.not_less, long.ends)
-  follows_not_less premise made (crossed name is why) =
-      let gives = cross_case_gives net name premise made.edge is in let long = cross_case_lengthens net name premise made.edge gives (link_positive name gives.link gives.declared).positive in (long.not_less, long.ends)
-  follows_not_less premise made (joined_plainly first has is why) = let long = no_case_lengthens first premise made.edge (no_case_gives first premise made.edge is) in (long.not_less, long.ends)
-  follows_not_less premise made (joined_labelled first has is why) = let long = upper_case_lengthens first premise made.edge (upper_case_gives first premise made.edge is) in (long.not_less, long.ends)
-
   -- ---- a slot that is not live
   not_live : (place : ℕ) (slot : Slot) → is_live begins place slot ≡ false → (slot.why ≡ None) × (begins place ≡ false)
   not_live place slot is = by slot.why refl is
@@ -147,31 +116,15 @@ module _ (net : Plan) (table : Graph) (to : PointId) (delta : List (List Edge)) 
       by None absent is' = (absent, is')
       by (Some why) some is' = absurd cc
 
-  -- what the settled slots of the reference row are
-  making_of : (making : Making) → IsUnderWay net table to making → IsMaking net table to plan fits sound making
-  making_of making candidate = candidate.is plan fits sound
-
-  under_way : (making : Making) → IsUnderWay net table to making → IsUnder table to making.slots
-  under_way making candidate place slot old here has = by slot.why refl
-    where
-      by : (o : Option Why) → slot.why ≡ o → (weight : ℤ) × (slot.weight ≡ Some weight) × (weight ≤ℤ old)
-      by None absent = (old, (making_of making candidate).partly.row.unimproved place slot here absent ∙ has, le_of_same old old refl)
-      by (Some why) some =
-          let (weight, is, below) = (making_of making candidate).partly.row.improvements place slot why here some in
-          (weight, is, lt_is_le weight old (below old has))
-
   -- the row has these slots and this list of what improved: a reference row that is under way has the same but for slots passed over, and others for which less is pending
   pub record IsPruned (slots : List Slot) (made : List Made) : Type 0 where
     pub making : Making
-    pub candidate : IsUnderWay net table to making
+    pub progress : IsUnderWay net table to making
     pub alike : AreAlike table to delta begins making.slots [] slots
     pub improved_same : making.made ≡ made
 
   pub pruned_first : IsPruned (first_slots table to) []
-  pruned_first = record { making = record { slots = first_slots table to; made = [] }; candidate = under_way_first net table to; alike = alike_itself table to delta begins (first_slots table to); improved_same = refl }
-
-  consequences_end : (slot : Slot) (weight : ℤ) (made : Made) → Contains (consequences net table (edge_in to slot weight)) made → (weight ≤ℤ made.edge.weight) × (made.edge.to ≡ to)
-  consequences_end slot weight made inside = follows_not_less (edge_in to slot weight) made (consequence_is net table (edge_in to slot weight) made inside)
+  pruned_first = record { making = record { slots = first_slots table to; made = [] }; progress = under_way_first net table to; alike = alike_itself table to delta begins (first_slots table to); improved_same = refl }
 
   -- ---- the places of a row under way are those of the table
   record IsAtStart (place : ℕ) (slot start : Slot) : Type 0 where
@@ -179,21 +132,21 @@ module _ (net : Plan) (table : Graph) (to : PointId) (delta : List (List Edge)) 
     recorded : start.weight ≡ weight_of table (key_in to slot)
 
   at_start : (making : Making) → IsUnderWay net table to making → (place : ℕ) (slot start : Slot) → slice_get making.slots place ≡ Some slot → slice_get (first_slots table to) place ≡ Some start → IsAtStart place slot start
-  at_start making candidate place slot start here found =
-      let row = (making_of making candidate).partly.row in
-      let start_row = (making_of (record { slots = first_slots table to; made = [] }) (under_way_first net table to)).partly.row in
+  at_start making progress place slot start here found =
+      let row = (making_of net table to plan fits sound making progress).partly.row in
+      let start_row = (making_of net table to plan fits sound (record { slots = first_slots table to; made = [] }) (under_way_first net table to)).partly.row in
       let one : slice_get (row_keys table.shape to) place ≡ Some (key_in to slot) = ap (λ (ks : List Key). slice_get ks place) (sym row.keys) ∙ (slice_get-map (key_in to) making.slots place ∙ ap (option_map (key_in to)) here) in
       let two : slice_get (row_keys table.shape to) place ≡ Some (key_in to start) = ap (λ (ks : List Key). slice_get ks place) (sym start_row.keys)
       ∙ (slice_get-map (key_in to) (first_slots table to) place ∙ ap (option_map (key_in to)) found) in
       let key : key_in to slot ≡ key_in to start = same_Some (key_in to slot) (key_in to start) (sym one ∙ two) in
-      let none : start.why ≡ None = first_no_why table (row_keys table.shape to) place start found in
+      let none : start.why ≡ None = unimproved_at_first table (row_keys table.shape to) place start found in
       record { key = key; recorded = start_row.unimproved place start found none ∙ ap (weight_of table) (sym key) }
 
   -- the slot under way at a place of the table
   slot_under_way : (making : Making) → IsUnderWay net table to making → (place : ℕ) (start : Slot) → slice_get (first_slots table to) place ≡ Some start → (slot : Slot) × (slice_get making.slots place ≡ Some slot)
-  slot_under_way making candidate place start found =
-      let row = (making_of making candidate).partly.row in
-      let start_row = (making_of (record { slots = first_slots table to; made = [] }) (under_way_first net table to)).partly.row in
+  slot_under_way making progress place start found =
+      let row = (making_of net table to plan fits sound making progress).partly.row in
+      let start_row = (making_of net table to plan fits sound (record { slots = first_slots table to; made = [] }) (under_way_first net table to)).partly.row in
       let same : map (key_in to) making.slots ≡ map (key_in to) (first_slots table to) = row.keys ∙ sym start_row.keys in
       let at : slice_get (map (key_in to) making.slots) place ≡ Some (key_in to start) = ap (λ (ks : List Key). slice_get ks place) same ∙ (slice_get-map (key_in to) (first_slots table to) place ∙ ap (option_map (key_in to)) found) in
       let (slot, there, key) = some_of_map (key_in to) (slice_get making.slots place) (key_in to start) (sym (slice_get-map (key_in to) making.slots place) ∙ at) in
@@ -202,17 +155,17 @@ module _ (net : Plan) (table : Graph) (to : PointId) (delta : List (List Edge)) 
   -- a slot under way weighs no more than the table has
   recorded_under : (making : Making) → IsUnderWay net table to making → (place : ℕ) (slot start : Slot) (recorded : ℤ) → slice_get making.slots place ≡ Some slot → slice_get (first_slots table to) place ≡ Some start
       → start.weight ≡ Some recorded → (weight : ℤ) × (slot.weight ≡ Some weight) × (weight ≤ℤ recorded)
-  recorded_under making candidate place slot start recorded here found has = under_way making candidate place slot recorded here (sym (at_start making candidate place slot start here found).recorded ∙ has)
+  recorded_under making progress place slot start recorded here found has = under_way net table to plan fits sound making progress place slot recorded here (sym (at_start making progress place slot start here found).recorded ∙ has)
 
   -- the candidate of a slot at its weight
-  module _ (making : Making) (candidate : IsUnderWay net table to making) (place : ℕ) (slot : Slot) (weight recorded : ℤ) (from : PointId) (label : Option LinkId) (reached : ℤ) (here : slice_get making.slots place ≡ Some slot)
+  module _ (making : Making) (progress : IsUnderWay net table to making) (place : ℕ) (slot : Slot) (weight recorded : ℤ) (from : PointId) (label : Option LinkId) (reached : ℤ) (here : slice_get making.slots place ≡ Some slot)
       (has : slot.weight ≡ Some weight) (leads : LeadsTo table to delta place recorded from label reached) where
     start_key : key_in to slot ≡ key_in to leads.slot
-    start_key = (at_start making candidate place slot leads.slot here leads.here).key
+    start_key = (at_start making progress place slot leads.slot here leads.here).key
 
     start_less : weight ≤ℤ recorded
     start_less =
-        let (held, had, less) = recorded_under making candidate place slot leads.slot recorded here leads.here leads.has in
+        let (held, had, less) = recorded_under making progress place slot leads.slot recorded here leads.here leads.has in
         subst (λ (w : ℤ). w ≤ℤ recorded) (same_weight held weight (sym had ∙ has)) less
 
     candidate_below : weight <ℤ pos 0
@@ -247,81 +200,23 @@ module _ (net : Plan) (table : Graph) (to : PointId) (delta : List (List Edge)) 
     -- it leads to no less than it weighs
     candidate_not_less : weight ≤ℤ reached
     candidate_not_less =
-        le_then weight recorded reached start_less (subst (λ (w : ℤ). recorded ≤ℤ w) (sym leads.total_is) (over_not_less leads.first.weight recorded))
-
-  -- the slots with one marked
-  mark_at : (slots : List Slot) (place : ℕ) (slot : Slot) → slice_get slots place ≡ Some slot → (other : ℕ) (after : Slot) → slice_get (slice_set slots place (marked slot)) other ≡ Some after
-      → ((other ≡ place) × (after ≡ marked slot)) ⊎ ((other ≢ place) × (slice_get slots other ≡ Some after))
-  mark_at slots place slot here other after there = by (other == place) refl
-    where
-      by : (b : Bool) → (other == place) ≡ b → ((other ≡ place) × (after ≡ marked slot)) ⊎ ((other ≢ place) × (slice_get slots other ≡ Some after))
-      by true is =
-          let equal : other ≡ place = eqb-true other place is in
-          let at : slice_get (slice_set slots place (marked slot)) place ≡ Some (marked slot) = set_same slots place slot (marked slot) here in
-          let there' : slice_get (slice_set slots place (marked slot)) place ≡ Some after = subst (λ (k : ℕ). slice_get (slice_set slots place (marked slot)) k ≡ Some after) equal there in
-          inl (equal, sym (same_Some (marked slot) after (sym at ∙ there')))
-      by false is =
-          let apart : other ≢ place = λ equal. (let test : (other == place) ≡ true = rw equal (grind (arith, nat_tests)) in absurd cc) in
-          inr (apart, sym (set_other slots place other (marked slot) apart) ∙ there)
-
-  under_marked : (slots : List Slot) (place : ℕ) (slot : Slot) → slice_get slots place ≡ Some slot → IsUnder table to slots → IsUnder table to (slice_set slots place (marked slot))
-  under_marked slots place slot here under other after old there has = by (mark_at slots place slot here other after there)
-    where
-      by : ((other ≡ place) × (after ≡ marked slot)) ⊎ ((other ≢ place) × (slice_get slots other ≡ Some after)) → (weight : ℤ) × (after.weight ≡ Some weight) × (weight ≤ℤ old)
-      by (inl (equal, is)) =
-          let (weight, had, less) = under place slot old here (ap (λ (s : Slot). weight_of table (key_in to s)) (sym is) ∙ has) in
-          (weight, ap (λ (s : Slot). s.weight) is ∙ had, less)
-      by (inr (apart, at)) = under other after old at has
+        le_then weight recorded reached start_less (subst (λ (w : ℤ). recorded ≤ℤ w) (sym leads.total_is) (joined_not_less leads.first.weight recorded))
 
   -- ---- one slot of the reference row is settled
-  module _ (making : Making) (candidate : IsUnderWay net table to making) (slots : List Slot) (alike : AreAlike table to delta begins making.slots [] slots) (place : ℕ) (weight : ℤ) (some : next_slot making.slots ≡ Some (place, weight))
+  module _ (making : Making) (progress : IsUnderWay net table to making) (slots : List Slot) (alike : AreAlike table to delta begins making.slots [] slots) (place : ℕ) (weight : ℤ) (some : next_slot making.slots ≡ Some (place, weight))
       (slot : Slot) (here : slice_get making.slots place ≡ Some slot) where
-    there_is : slot ≡ (next_there net table to making (place, weight) some).slot
-    there_is = same_Some slot (next_there net table to making (place, weight) some).slot (sym here ∙ (next_there net table to making (place, weight) some).here)
-
     is_open : slot.settled ≡ false
-    is_open = ap (λ (s : Slot). s.settled) there_is ∙ (next_there net table to making (place, weight) some).is_open
+    is_open = next_open net table to plan fits sound making progress place weight some slot here
 
     has_weight : slot.weight ≡ Some weight
-    has_weight = ap (λ (s : Slot). s.weight) there_is ∙ (next_there net table to making (place, weight) some).has
-
-    after_is : after_slot net table to making (place, weight) (next_there net table to making (place, weight) some).slot ≡ after_slot net table to making (place, weight) slot
-    after_is = ap (after_slot net table to making (place, weight)) (sym there_is)
-
-    candidate_after : IsUnderWay net table to (after_slot net table to making (place, weight) slot)
-    candidate_after = subst (IsUnderWay net table to) after_is (under_way_next net table to making (place, weight) some candidate)
-
-    fewer : unsettled (after_slot net table to making (place, weight) slot).slots < unsettled making.slots
-    fewer = subst (λ (m : Making). unsettled m.slots < unsettled making.slots) after_is (fewer_after net table to making (place, weight) some)
-
-    -- what is settled is no heavier
-    low_marked : IsLow table to weight (slice_set making.slots place (marked slot))
-    low_marked other after there settled = by (mark_at making.slots place slot here other after there)
-      where
-        by : ((other ≡ place) × (after ≡ marked slot)) ⊎ ((other ≢ place) × (slice_get making.slots other ≡ Some after)) → (w : ℤ) × (after.weight ≡ Some w) × (w ≤ℤ weight)
-        by (inl (equal, is)) = (weight, ap (λ (s : Slot). s.weight) is ∙ has_weight, le_of_same weight weight refl)
-        by (inr (apart, at)) =
-            let partly = (making_of making candidate).partly in
-            let (w, had) = partly.has other after at settled in
-            (w, had, partly.ordered other place after slot w weight at here settled had is_open has_weight)
-
-    few_not_less : (few : List Made) → IsThinned table (consequences net table (edge_in to slot weight)) few → (made : Made) → Contains few made → weight ≤ℤ made.edge.weight
-    few_not_less few thin made inside = (consequences_end slot weight made (thinned_from table to (consequences net table (edge_in to slot weight)) few thin made inside)).0
-
-    relaxes_are : (few : List Made) → IsThinned table (consequences net table (edge_in to slot weight)) few
-        → (after_slot net table to making (place, weight) slot).slots ≡ fold relaxed (slice_set making.slots place (marked slot)) few
-    relaxes_are few thin =
-        thinned_relaxations table to (consequences net table (edge_in to slot weight)) few (slice_set making.slots place (marked slot))
-        (under_marked making.slots place slot here (under_way making candidate)) (λ made inside. (consequences_end slot weight made inside).1) thin
-
-    -- it is not live: it is passed over
+    has_weight = next_weight net table to plan fits sound making progress place weight some slot here
 
     next_first : FirstIs open_weight making.slots (Some (place, weight))
     next_first = subst (FirstIs open_weight making.slots) some (first_least-is open_weight making.slots)
 
     -- an open slot is not settled before it
     no_lesser : (other : ℕ) (one : Slot) (w : ℤ) → slice_get making.slots other ≡ Some one → one.settled ≡ false → one.weight ≡ Some w → weight ≤ℤ w
-    no_lesser other one w at open_one has = next_first.least other w (opens making.slots other one w at open_one has)
+    no_lesser other one w at open_one has = next_first.least other w (open_weight_at making.slots other one w at open_one has)
 
     -- a slot for which less is pending is not next
     no_pending_key : (other : Slot) → IsPendingKey table to delta begins making.slots [] slot other → ⊥
@@ -330,9 +225,9 @@ module _ (net : Plan) (table : Graph) (to : PointId) (delta : List (List Edge)) 
         by : HasPendingWeight table to delta begins making.slots slot.from slot.label await.weight ⊎ IsDue table to delta begins [] slot.from slot.label await.weight → ⊥
         by (inr due) = Contains-none due.made due.inside
         by (inl pending) =
-            let (held, had, less) = recorded_under making candidate pending.place pending.slot pending.leads.slot pending.recorded pending.here pending.leads.here pending.leads.has in
+            let (held, had, less) = recorded_under making progress pending.place pending.slot pending.leads.slot pending.recorded pending.here pending.leads.here pending.leads.has in
             let first : weight ≤ℤ held = no_lesser pending.place pending.slot held pending.here pending.is_open had in
-            let over : held ≤ℤ pending.reached = candidate_not_less making candidate pending.place pending.slot held pending.recorded slot.from slot.label pending.reached pending.here had pending.leads in
+            let over : held ≤ℤ pending.reached = candidate_not_less making progress pending.place pending.slot held pending.recorded slot.from slot.label pending.reached pending.here had pending.leads in
             let mine : await.weight ≡ weight = same_weight await.weight weight (sym await.has ∙ has_weight) in
             not_below pending.reached pending.reached refl (lt_then pending.reached await.weight pending.reached pending.less (same_then await.weight weight pending.reached mine (le_then weight held pending.reached first over)))
 
@@ -372,7 +267,7 @@ module _ (net : Plan) (table : Graph) (to : PointId) (delta : List (List Edge)) 
       begins_elsewhere other seeded equal = let both : begins place ≡ true = ap begins (sym equal) ∙ seeded in let not = absent.1 in absurd cc
 
       had : HasEdge table (edge_in to slot weight)
-      had = sym ((making_of making candidate).partly.row.unimproved place slot here absent.0) ∙ has_weight
+      had = sym ((making_of net table to plan fits sound making progress).partly.row.unimproved place slot here absent.0) ∙ has_weight
 
       -- what follows with delta edges before it
       abbrev follows : List Made
@@ -389,7 +284,7 @@ module _ (net : Plan) (table : Graph) (to : PointId) (delta : List (List Edge)) 
             let key = row_key in record {
               slot = (start_there).0;
               here = (start_there).1;
-              has = (at_start making candidate place slot (start_there).0 here (start_there).1).recorded ∙ had;
+              has = (at_start making progress place slot (start_there).0 here (start_there).1).recorded ∙ had;
               negative = below;
               first = first;
               is_delta = subst (λ (k : Key). Contains (delta_at delta k.from) first) key is_delta;
@@ -401,8 +296,8 @@ module _ (net : Plan) (table : Graph) (to : PointId) (delta : List (List Edge)) 
           where
             start_there : (start : Slot) × (slice_get (first_slots table to) place ≡ Some start)
             start_there =
-                let row = (making_of making candidate).partly.row in
-                let start_row = (making_of (record { slots = first_slots table to; made = [] }) (under_way_first net table to)).partly.row in
+                let row = (making_of net table to plan fits sound making progress).partly.row in
+                let start_row = (making_of net table to plan fits sound (record { slots = first_slots table to; made = [] }) (under_way_first net table to)).partly.row in
                 let same' : map (key_in to) making.slots ≡ map (key_in to) (first_slots table to) = row.keys ∙ sym start_row.keys in
                 let at : slice_get (map (key_in to) (first_slots table to)) place ≡ Some (key_in to slot) = ap (λ (ks : List Key). slice_get ks place) (sym same')
                 ∙ (slice_get-map (key_in to) making.slots place ∙ ap (option_map (key_in to)) here) in
@@ -410,11 +305,11 @@ module _ (net : Plan) (table : Graph) (to : PointId) (delta : List (List Edge)) 
                 (start, found)
 
             row_key : key_in to slot ≡ key_in to (start_there).0
-            row_key = (at_start making candidate place slot (start_there).0 here (start_there).1).key
+            row_key = (at_start making progress place slot (start_there).0 here (start_there).1).key
 
         -- another candidate that is not worse is to come, or was relaxed
         outdone : IsOutdone table to delta begins place weight made.edge.from made.edge.label made.edge.weight → IsSpared table to delta begins (slice_set making.slots place (marked slot)) made
-        outdone other = let (one, at) = slot_under_way making candidate other.other other.leads.slot other.leads.here in by one at one.settled refl
+        outdone other = let (one, at) = slot_under_way making progress other.other other.leads.slot other.leads.here in by one at one.settled refl
           where
             apart : other.other ≢ place
             apart = begins_elsewhere other.other other.begins_there
@@ -422,9 +317,9 @@ module _ (net : Plan) (table : Graph) (to : PointId) (delta : List (List Edge)) 
             -- it was settled: the slot of the key took it, or had less
             relaxed_before : (one : Slot) → slice_get making.slots other.other ≡ Some one → one.settled ≡ true → IsVain table to (slice_set making.slots place (marked slot)) made
             relaxed_before one at settled =
-                let (held, has) = (making_of making candidate).partly.has other.other one at settled in
-                let candidate' = candidate_there making candidate other.other one held other.recorded made.edge.from made.edge.label other.reached at has other.leads in
-                let closed : IsMet to making.slots candidate'.made.edge = (making_of making candidate).partly.closed other.other one held at settled has candidate'.made candidate'.inside in
+                let (held, has) = (making_of net table to plan fits sound making progress).partly.has other.other one at settled in
+                let candidate' = candidate_there making progress other.other one held other.recorded made.edge.from made.edge.label other.reached at has other.leads in
+                let closed : IsMet to making.slots candidate'.made.edge = (making_of net table to plan fits sound making progress).partly.closed other.other one held at settled has candidate'.made candidate'.inside in
                 λ k after there of. vain candidate'.made closed candidate'.from_is candidate'.label_is candidate'.ends (le_then candidate'.made.edge.weight other.reached made.edge.weight candidate'.not_more no_more) k after there of
               where
                 no_more : other.reached ≤ℤ made.edge.weight
@@ -437,7 +332,7 @@ module _ (net : Plan) (table : Graph) (to : PointId) (delta : List (List Edge)) 
                 vain : (candidate'' : Made) → IsMet to making.slots candidate''.edge → candidate''.edge.from ≡ made.edge.from → candidate''.edge.label ≡ made.edge.label → candidate''.edge.to ≡ to
                     → candidate''.edge.weight ≤ℤ made.edge.weight → (k : ℕ) (after : Slot) → slice_get (slice_set making.slots place (marked slot)) k ≡ Some after → is_slot_of made.edge after ≡ true
                     → has_above after made.edge.weight ≡ false
-                vain candidate'' closed' from label ends lower k after there of = by (mark_at making.slots place slot here k after there)
+                vain candidate'' closed' from label ends lower k after there of = by (was_marked making.slots place slot here k after there)
                   where
                     key : key_in to after ≡ key_of candidate''.edge
                     key = slot_of_key to made.edge after (ap (λ (e : Edge). e.to) is) of ∙ (λ i. record { to = (ap (λ (e : Edge). e.to) is ∙ sym ends) i; from = sym from i; label = sym label i })
@@ -445,7 +340,7 @@ module _ (net : Plan) (table : Graph) (to : PointId) (delta : List (List Edge)) 
                     -- the slot of the key in the row under way
                     held : (one : Slot) → slice_get making.slots k ≡ Some one → key_in to one ≡ key_in to after → one.weight ≡ after.weight → has_above after made.edge.weight ≡ false
                     held one at key' weights =
-                        let keys = (making_of making candidate).partly.row.keys in
+                        let keys = (making_of net table to plan fits sound making progress).partly.row.keys in
                         let first_at : slice_get (row_keys table.shape to) k ≡ Some (key_of candidate''.edge) = ap (λ (ks : List Key). slice_get ks k) (sym keys)
                         ∙ (slice_get-map (key_in to) making.slots k ∙ (ap (option_map (key_in to)) at ∙ ap Some (key' ∙ key))) in
                         let second_at : slice_get (row_keys table.shape to) closed'.place ≡ Some (key_of candidate''.edge) = ap (λ (ks : List Key). slice_get ks closed'.place) (sym keys)
@@ -454,8 +349,8 @@ module _ (net : Plan) (table : Graph) (to : PointId) (delta : List (List Edge)) 
                         let one_is : closed'.slot ≡ one = same_Some closed'.slot one (sym closed'.here ∙ (ap (slice_get making.slots) (sym equal) ∙ at)) in
                         holds_it after made.edge.weight closed'.weight (sym weights ∙ (ap (λ (s : Slot). s.weight) (sym one_is) ∙ closed'.has)) (le_then closed'.weight candidate''.edge.weight made.edge.weight closed'.less lower)
 
-                    by : ((k ≡ place) × (after ≡ marked slot)) ⊎ ((k ≢ place) × (slice_get making.slots k ≡ Some after)) → has_above after made.edge.weight ≡ false
-                    by (inl (equal, is')) = held slot (ap (slice_get making.slots) equal ∙ here) (ap (key_in to) (sym is')) (ap (λ (s : Slot). s.weight) (sym is'))
+                    by : ((k ≡ place) × (marked slot ≡ after)) ⊎ ((k ≢ place) × (slice_get making.slots k ≡ Some after)) → has_above after made.edge.weight ≡ false
+                    by (inl (equal, is')) = held slot (ap (slice_get making.slots) equal ∙ here) (ap (key_in to) is') (ap (λ (s : Slot). s.weight) is')
                     by (inr (apart', old)) = held after old refl refl
 
             -- it is open: it is settled later, so that it leads to less
@@ -463,7 +358,7 @@ module _ (net : Plan) (table : Graph) (to : PointId) (delta : List (List Edge)) 
             is_less one at open_one = less other.no_worse
               where
                 recorded_is : (held : ℤ) × (one.weight ≡ Some held) × (held ≤ℤ other.recorded)
-                recorded_is = recorded_under making candidate other.other one other.leads.slot other.recorded at other.leads.here other.leads.has
+                recorded_is = recorded_under making progress other.other one other.leads.slot other.recorded at other.leads.here other.leads.has
 
                 first_there : weight ≤ℤ (recorded_is).0
                 first_there = no_lesser other.other one (recorded_is).0 at open_one (recorded_is).1
@@ -473,7 +368,7 @@ module _ (net : Plan) (table : Graph) (to : PointId) (delta : List (List Edge)) 
                 less (inr (equal, inl earlier)) = absurd (not_below other.recorded other.recorded refl (lt_then other.recorded weight other.recorded earlier (le_then weight (recorded_is).0 other.recorded first_there (recorded_is).2)))
                 less (inr (equal, inr (same_recorded, before'))) =
                     let place_before : other.other < place = (let not = apart in omega arith) in
-                    let lower : weight <ℤ (recorded_is).0 = next_first.first other.other (recorded_is).0 (opens making.slots other.other one (recorded_is).0 at open_one (recorded_is).1) place_before in
+                    let lower : weight <ℤ (recorded_is).0 = next_first.first other.other (recorded_is).0 (open_weight_at making.slots other.other one (recorded_is).0 at open_one (recorded_is).1) place_before in
                     absurd (not_below weight weight refl (lt_then weight (recorded_is).0 weight lower (subst (λ (w : ℤ). (recorded_is).0 ≤ℤ w) same_recorded (recorded_is).2)))
 
             by : (one : Slot) → slice_get making.slots other.other ≡ Some one → (b : Bool) → one.settled ≡ b → IsSpared table to delta begins (slice_set making.slots place (marked slot)) made
@@ -498,7 +393,7 @@ module _ (net : Plan) (table : Graph) (to : PointId) (delta : List (List Edge)) 
 
             by : (b : Bool) → has_at_most table (record { from = made.edge.from; to = to; label = made.edge.label; weight = made.edge.weight }) ≡ b → IsSpared table to delta begins (slice_set making.slots place (marked slot)) made
             by true held =
-                inl (met_vain table to (slice_set making.slots place (marked slot)) made (under_marked making.slots place slot here (under_way making candidate)) (ap (λ (e : Edge). e.to) is)
+                inl (met_vain table to (slice_set making.slots place (marked slot)) made (under_marked net table to plan fits sound making.slots place slot here (under_way net table to plan fits sound making progress)) (ap (λ (e : Edge). e.to) is)
                 (subst (HasAtMost table) edge_is (at_most_tested table (record { from = made.edge.from; to = to; label = made.edge.label; weight = made.edge.weight }) held)))
             by false below_it = outdone (best place weight made.edge.from made.edge.label made.edge.weight leads below_it)
 
@@ -506,7 +401,7 @@ module _ (net : Plan) (table : Graph) (to : PointId) (delta : List (List Edge)) 
       all_spared made inside =
           let (first, at, is_from) = Contains-flat_map_from (from_first (edge_in to slot weight)) (delta_at delta slot.from) made inside in
           let (is, before, below) = from_first_is first (edge_in to slot weight) made is_from in
-          (few_not_less follows thin made inside, ap (λ (e : Edge). e.to) is, spared made first at is before below)
+          (few_not_less net table to plan fits sound making progress place weight some slot here follows thin made inside, ap (λ (e : Edge). e.to) is, spared made first at is before below)
 
       marked_alike : AreAlike table to delta begins (slice_set making.slots place (marked slot)) [] slots
       marked_alike = record { there = there; back = back }
@@ -537,15 +432,15 @@ module _ (net : Plan) (table : Graph) (to : PointId) (delta : List (List Edge)) 
 
           there : (other : ℕ) (after : Slot) → slice_get (slice_set making.slots place (marked slot)) other ≡ Some after
               → (pruned : Slot) × (slice_get slots other ≡ Some pruned) × IsAlike table to delta begins (slice_set making.slots place (marked slot)) [] other after pruned
-          there other after at = by (mark_at making.slots place slot here other after at)
+          there other after at = by (was_marked making.slots place slot here other after at)
             where
-              by : ((other ≡ place) × (after ≡ marked slot)) ⊎ ((other ≢ place) × (slice_get making.slots other ≡ Some after))
+              by : ((other ≡ place) × (marked slot ≡ after)) ⊎ ((other ≢ place) × (slice_get making.slots other ≡ Some after))
                   → (pruned : Slot) × (slice_get slots other ≡ Some pruned) × IsAlike table to delta begins (slice_set making.slots place (marked slot)) [] other after pruned
               by (inl (equal, is)) = (
                 slot,
                 ap (slice_get slots) equal ∙ next_there_too,
                 subst (λ (k : ℕ). IsAlike table to delta begins (slice_set making.slots place (marked slot)) [] k after slot) (sym equal)
-                    (subst (λ (s : Slot). IsAlike table to delta begins (slice_set making.slots place (marked slot)) [] place s slot) (sym is) (mine slot next_there_too)),
+                    (subst (λ (s : Slot). IsAlike table to delta begins (slice_set making.slots place (marked slot)) [] place s slot) is (mine slot next_there_too)),
               )
               by (inr (apart, old)) = let (pruned, found, was) = alike.there other after old in (pruned, found, moved other after pruned was)
 
@@ -569,8 +464,8 @@ module _ (net : Plan) (table : Graph) (to : PointId) (delta : List (List Edge)) 
       passed_over : (AreAlike table to delta begins (after_slot net table to making (place, weight) slot).slots [] slots) × ((after_slot net table to making (place, weight) slot).made ≡ making.made)
       passed_over =
           let nothing : improved to slot weight ≡ [] = ap (λ (o : Option Why). option_map_or (λ why. record { edge = edge_in to slot weight; why = why } ∷ []) o []) absent.0 in (
-            subst (λ (list : List Slot). AreAlike table to delta begins list [] slots) (sym (relaxes_are follows thin))
-                (alone_all table to delta begins weight follows (slice_set making.slots place (marked slot)) slots all_spared low_marked marked_alike),
+            subst (λ (list : List Slot). AreAlike table to delta begins list [] slots) (sym (relaxes_are net table to plan fits sound making progress place weight some slot here follows thin))
+                (alone_all table to delta begins weight follows (slice_set making.slots place (marked slot)) slots all_spared (low_marked net table to plan fits sound making progress place weight some slot here) marked_alike),
             ap (λ (l : List Made). making.made ++ l) nothing ∙ append-nil making.made,
           )
 
@@ -582,7 +477,7 @@ module _ (net : Plan) (table : Graph) (to : PointId) (delta : List (List Edge)) 
       pending_due other one w at has pending equal =
           let mine : pending.slot ≡ slot = same_Some pending.slot slot (sym pending.here ∙ (ap (slice_get making.slots) equal ∙ here)) in
           let leads' = subst (λ (k : ℕ). LeadsTo table to delta k pending.recorded one.from one.label pending.reached) equal pending.leads in
-          let candidate' = candidate_there making candidate place slot weight pending.recorded one.from one.label pending.reached here has_weight leads' in
+          let candidate' = candidate_there making progress place slot weight pending.recorded one.from one.label pending.reached here has_weight leads' in
           let lower : candidate'.made.edge.weight <ℤ w = le_then_lt candidate'.made.edge.weight pending.reached w candidate'.not_more pending.less in
           record {
             made = candidate'.made;
@@ -596,7 +491,7 @@ module _ (net : Plan) (table : Graph) (to : PointId) (delta : List (List Edge)) 
           unsaturated made from label ends lower held =
               let (old, recorded, less) = at_most_gives table made.edge held in
               let key : key_in to one ≡ key_of made.edge = λ i. record { to = sym ends i; from = sym from i; label = sym label i } in
-              let (weight', had, under) = under_way making candidate other one old at (ap (weight_of table) key ∙ recorded) in
+              let (weight', had, under) = under_way net table to plan fits sound making progress other one old at (ap (weight_of table) key ∙ recorded) in
               let same_w : weight' ≡ w = same_weight weight' w (sym had ∙ has) in
               not_below w w refl (same_then_lt w weight' old made.edge.weight (sym same_w) under less lower)
 
@@ -630,26 +525,26 @@ module _ (net : Plan) (table : Graph) (to : PointId) (delta : List (List Edge)) 
         where
           there : (other : ℕ) (after : Slot) → slice_get (slice_set making.slots place (marked slot)) other ≡ Some after → (pruned : Slot) × (slice_get (slice_set slots place (marked slot)) other ≡ Some pruned)
               × IsAlike table to delta begins (slice_set making.slots place (marked slot)) few other after pruned
-          there other after found = by (mark_at making.slots place slot here other after found)
+          there other after found = by (was_marked making.slots place slot here other after found)
             where
-              by : ((other ≡ place) × (after ≡ marked slot)) ⊎ ((other ≢ place) × (slice_get making.slots other ≡ Some after)) → (pruned : Slot) × (slice_get (slice_set slots place (marked slot)) other ≡ Some pruned)
+              by : ((other ≡ place) × (marked slot ≡ after)) ⊎ ((other ≢ place) × (slice_get making.slots other ≡ Some after)) → (pruned : Slot) × (slice_get (slice_set slots place (marked slot)) other ≡ Some pruned)
                   × IsAlike table to delta begins (slice_set making.slots place (marked slot)) few other after pruned
-              by (inl (equal, is)) = (marked slot, ap (slice_get (slice_set slots place (marked slot))) equal ∙ set_same slots place slot (marked slot) at, same is)
+              by (inl (equal, is)) = (marked slot, ap (slice_get (slice_set slots place (marked slot))) equal ∙ set_same slots place slot (marked slot) at, same (sym is))
               by (inr (apart, old)) = let (pruned, there', was) = alike.there other after old in (pruned, set_other slots place other (marked slot) apart ∙ there', moved_due other after pruned old was)
 
           back : (other : ℕ) (pruned : Slot) → slice_get (slice_set slots place (marked slot)) other ≡ Some pruned → (one : Slot) × (slice_get (slice_set making.slots place (marked slot)) other ≡ Some one)
               × IsAlike table to delta begins (slice_set making.slots place (marked slot)) few other one pruned
-          back other pruned found = by (mark_at slots place slot at other pruned found)
+          back other pruned found = by (was_marked slots place slot at other pruned found)
             where
-              by : ((other ≡ place) × (pruned ≡ marked slot)) ⊎ ((other ≢ place) × (slice_get slots other ≡ Some pruned)) → (one : Slot) × (slice_get (slice_set making.slots place (marked slot)) other ≡ Some one)
+              by : ((other ≡ place) × (marked slot ≡ pruned)) ⊎ ((other ≢ place) × (slice_get slots other ≡ Some pruned)) → (one : Slot) × (slice_get (slice_set making.slots place (marked slot)) other ≡ Some one)
                   × IsAlike table to delta begins (slice_set making.slots place (marked slot)) few other one pruned
-              by (inl (equal, is)) = (marked slot, ap (slice_get (slice_set making.slots place (marked slot))) equal ∙ set_same making.slots place slot (marked slot) here, same (sym is))
+              by (inl (equal, is)) = (marked slot, ap (slice_get (slice_set making.slots place (marked slot))) equal ∙ set_same making.slots place slot (marked slot) here, same is)
               by (inr (apart, old)) = let (one, there', was) = alike.back other pruned old in (one, set_other making.slots place other (marked slot) apart ∙ there', moved_due other one pruned there' was)
 
       settled_both : slice_get slots place ≡ Some slot → AreAlike table to delta begins (after_slot net table to making (place, weight) slot).slots [] (pruned_after slots place slot few)
       settled_both at =
-          subst (λ (list : List Slot). AreAlike table to delta begins list [] (pruned_after slots place slot few)) (sym (relaxes_are few thin))
-          (relaxes_alike table to delta begins weight few (slice_set making.slots place (marked slot)) (slice_set slots place (marked slot)) (few_not_less few thin) low_marked (both_marked at))
+          subst (λ (list : List Slot). AreAlike table to delta begins list [] (pruned_after slots place slot few)) (sym (relaxes_are net table to plan fits sound making progress place weight some slot here few thin))
+          (relaxes_alike table to delta begins weight few (slice_set making.slots place (marked slot)) (slice_set slots place (marked slot)) (few_not_less net table to plan fits sound making progress place weight some slot here few thin) (low_marked net table to plan fits sound making progress place weight some slot here) (both_marked at))
 
   -- ---- what is next in the pruned row is next in the reference row, when what is not live was passed over
   record IsCaughtUp (slots : List Slot) (made : List Made) : Type 0 where
@@ -670,11 +565,11 @@ module _ (net : Plan) (table : Graph) (to : PointId) (delta : List (List Edge)) 
     one_passed : (place : ℕ) (weight : ℤ) → next_slot pruned.making.slots ≡ Some (place, weight) → (slot : Slot) → slice_get pruned.making.slots place ≡ Some slot → is_live begins place slot ≡ false
         → (later : IsPruned slots made) × (unsettled later.making.slots < unsettled pruned.making.slots)
     one_passed place weight some slot here dead =
-        let (alike, same_made) = passed_over pruned.making pruned.candidate slots pruned.alike place weight some slot here dead in
-        let less = fewer pruned.making pruned.candidate slots pruned.alike place weight some slot here in (
+        let (alike, same_made) = passed_over pruned.making pruned.progress slots pruned.alike place weight some slot here dead in
+        let less = fewer net table to plan fits sound pruned.making pruned.progress place weight some slot here in (
           record {
             making = after_slot net table to pruned.making (place, weight) slot;
-            candidate = candidate_after pruned.making pruned.candidate slots pruned.alike place weight some slot here;
+            progress = progress_after net table to plan fits sound pruned.making pruned.progress place weight some slot here;
             alike = alike;
             improved_same = same_made ∙ pruned.improved_same;
           },
@@ -699,7 +594,7 @@ module _ (net : Plan) (table : Graph) (to : PointId) (delta : List (List Edge)) 
   -- the next slot of the reference row is the same in the pruned row
   next_is_there : (slots : List Slot) (made : List Made) (up : IsCaughtUp slots made) (place : ℕ) (weight : ℤ) (slot : Slot) → next_slot up.pruned.making.slots ≡ Some (place, weight) → slice_get up.pruned.making.slots place ≡ Some slot
       → slice_get slots place ≡ Some slot
-  next_is_there slots made up place weight slot some here = next_there_too up.pruned.making up.pruned.candidate slots up.pruned.alike place weight some slot here
+  next_is_there slots made up place weight slot some here = next_there_too up.pruned.making up.pruned.progress slots up.pruned.alike place weight some slot here
 
   pruned_next_is : (slots : List Slot) (made : List Made) (up : IsCaughtUp slots made) (place : ℕ) (slot : Slot) (weight : ℤ) → IsNextLive begins slots place slot weight → next_slot up.pruned.making.slots ≡ Some (place, weight)
   pruned_next_is slots made up place slot weight next_live = by (next_slot up.pruned.making.slots) refl (first_least-is open_weight up.pruned.making.slots)
@@ -710,9 +605,9 @@ module _ (net : Plan) (table : Graph) (to : PointId) (delta : List (List Edge)) 
         where
           of : (one : Slot) → slice_get up.pruned.making.slots place ≡ Some one → IsAlike table to delta begins up.pruned.making.slots [] place one slot
               → (held : ℤ) × (weight_at open_weight up.pruned.making.slots place ≡ Some held) × (held ≤ℤ weight)
-          of one at (same is) = (weight, opens up.pruned.making.slots place slot weight (at ∙ ap Some is) next_live.open_slot next_live.has, le_of_same weight weight refl)
+          of one at (same is) = (weight, open_weight_at up.pruned.making.slots place slot weight (at ∙ ap Some is) next_live.open_slot next_live.has, le_of_same weight weight refl)
           of one at (passed is open_slot dead w has) = let live = next_live.live in absurd cc
-          of one at (awaits await) = (await.weight, opens up.pruned.making.slots place one await.weight at await.open_one await.has, await.not_less weight next_live.has)
+          of one at (awaits await) = (await.weight, open_weight_at up.pruned.making.slots place one await.weight at await.open_one await.has, await.not_less weight next_live.has)
 
       by : (o : Option (ℕ × ℤ)) → next_slot up.pruned.making.slots ≡ o → FirstIs open_weight up.pruned.making.slots o → o ≡ Some (place, weight)
       by None end all = let (held, here, less) = mine in let absent = all place in absurd cc
@@ -750,8 +645,8 @@ module _ (net : Plan) (table : Graph) (to : PointId) (delta : List (List Edge)) 
       let both = next_in_both slots made place slot weight pruned next_live in
       let up = both.up in record {
         making = after_slot net table to up.pruned.making (place, weight) slot;
-        candidate = candidate_after up.pruned.making up.pruned.candidate slots up.pruned.alike place weight both.some slot both.here;
-        alike = settled_both up.pruned.making up.pruned.candidate slots up.pruned.alike place weight both.some slot both.here few thin next_live.here;
+        progress = progress_after net table to plan fits sound up.pruned.making up.pruned.progress place weight both.some slot both.here;
+        alike = settled_both up.pruned.making up.pruned.progress slots up.pruned.alike place weight both.some slot both.here few thin next_live.here;
         improved_same = ap (λ (l : List Made). l ++ improved to slot weight) up.pruned.improved_same;
       }
 
@@ -759,7 +654,7 @@ module _ (net : Plan) (table : Graph) (to : PointId) (delta : List (List Edge)) 
   pruned_done slots made pruned all = let up = caught_up slots made pruned in by up (next_slot up.pruned.making.slots) refl
     where
       by : (up : IsCaughtUp slots made) (o : Option (ℕ × ℤ)) → next_slot up.pruned.making.slots ≡ o → made ≡ reference_row net table to
-      by up None end = sym up.pruned.improved_same ∙ under_way_done net table to up.pruned.making end up.pruned.candidate
+      by up None end = sym up.pruned.improved_same ∙ under_way_done net table to up.pruned.making end up.pruned.progress
       by up (Some (place, weight)) some =
           let there = next_there net table to up.pruned.making (place, weight) some in
           let settled = all place there.slot weight (next_is_there slots made up place weight there.slot some there.here) (up.up place weight there.slot some there.here) there.has in
@@ -769,11 +664,11 @@ module _ (net : Plan) (table : Graph) (to : PointId) (delta : List (List Edge)) 
   pub pruned_derivable : (slots : List Slot) (made : List Made) (pruned : IsPruned slots made) (place : ℕ) (slot : Slot) (weight : ℤ) → IsNextLive begins slots place slot weight → IsInRow net table to (edge_in to slot weight)
   pruned_derivable slots made pruned place slot weight next_live =
       let both = next_in_both slots made place slot weight pruned next_live in
-      (making_of both.up.pruned.making both.up.pruned.candidate).partly.row.derivable place slot weight both.here next_live.has
+      (making_of net table to plan fits sound both.up.pruned.making both.up.pruned.progress).partly.row.derivable place slot weight both.here next_live.has
 
   -- if it has not improved, it is as the table has it
   pub pruned_unimproved : (slots : List Slot) (made : List Made) (pruned : IsPruned slots made) (place : ℕ) (slot : Slot) (weight : ℤ) → IsNextLive begins slots place slot weight → slot.why ≡ None
       → slot.weight ≡ weight_of table (key_in to slot)
   pruned_unimproved slots made pruned place slot weight next_live absent =
       let both = next_in_both slots made place slot weight pruned next_live in
-      (making_of both.up.pruned.making both.up.pruned.candidate).partly.row.unimproved place slot both.here absent
+      (making_of net table to plan fits sound both.up.pruned.making both.up.pruned.progress).partly.row.unimproved place slot both.here absent

@@ -25,7 +25,7 @@ use Rattle.net_model.proofs.RuleLemmas.{no_case_gives, upper_case_gives}
 use Rattle.std.proofs.lemmas.Bool.{eqb-true}
 use Rattle.std.proofs.lemmas.Bool.Decides.{nat_tests}
 use Rattle.closure_model.specs.Tables.{Graph, HasEdge, row_of}
-use Rattle.closure_model.proofs.Weights.{le_then}
+use Rattle.closure_model.proofs.Weights.{le_then, lt_false}
 use Rattle.closure_model.specs.declared.rows.Made.{Made}
 use Rattle.closure_model.specs.declared.rows.Slot.{Slot}
 use Rattle.labelled_graph.specs.Entries.{edge_into, is_ordinary, wide_label}
@@ -86,16 +86,13 @@ block_relaxes_nothing basis self edge column entries is held met = record {
   width = refl;
 }
 
-not_less : (w old : ℤ) → old ≤ℤ w → int_lt w old ≡ false
-not_less w old most = grind (arith, ints)
-
 -- what has a slot at a weight that is no greater than the candidate over both edges is saturated
 pub held_is_saturated : (slot : Slot) (weight : ℤ) → IsSomeAnd slot.weight (λ held. held ≤ℤ weight) → has_above slot weight ≡ false
 held_is_saturated slot weight some = by slot.weight some
   where
     by : (o : Option ℤ) → IsSomeAnd o (λ held. held ≤ℤ weight) → option_map_or (λ old. int_lt weight old) o true ≡ false
     by None none = absurd none
-    by (Some held) most = not_less weight held most
+    by (Some held) most = lt_false weight held most
 
 -- what the words of a block say of an entry in it
 pub words_meet : (table : Graph) (slots : List Slot) (width : ℕ) (edge : Edge) (column : ℕ) (word : ℤ) (entry : Entry) → ((slot : Slot) → slice_get slots (place_in_slots width entry.from column) ≡ Some slot → StandsFor word slot.weight)

@@ -36,6 +36,7 @@ use Rattle.closure_model.proofs.Nodes.{listed_at}
 use Rattle.closure_model.proofs.KeyPlaces.{only_place}
 use Rattle.closure_model.proofs.TableLemmas.{listed_edge}
 use Rattle.closure_model.proofs.Slots.{some_of_map, slot_of_key, key_of_slot, relaxed_keys}
+use Rattle.closure_model.proofs.ThinnedLemmas.{heavy_first}
 use Rattle.back_propagation.specs.SlotPlaces.{place_in_slots, width_of, HasColumn, slot_key, IsSlotAt, after_entry, IsRowAgainst, IsOfRow}
 use Rattle.back_propagation.proofs.RowPlaces.{row_at, at_column, column_inside}
 
@@ -263,15 +264,9 @@ never_given : (why : Why) (o : Option Edge) → ((e : Edge) → o ≡ Some e →
 never_given why None none = refl
 never_given why (Some e) none = absurd (none e refl)
 
-from_first_none : (edge first : Edge) → pos 0 ≤ℤ edge.weight → from_first edge first ≡ []
-from_first_none edge first high =
-    let one : given (No first edge) (no_case first edge) ≡ [] = never_given (No first edge) (no_case first edge) (λ e is. not_negative edge high edge.weight refl (no_case_gives first edge e is).negative) in
-    let two : given (Up first edge) (upper_case first edge) ≡ [] = never_given (Up first edge) (upper_case first edge) (λ e is. not_negative edge high edge.weight refl (upper_case_gives first edge e is).negative) in
-    rw (one, two) refl
-
 firsts_none : (edge : Edge) → pos 0 ≤ℤ edge.weight → (firsts : List Edge) → flat_map (from_first edge) firsts ≡ []
 firsts_none edge high [] = refl
-firsts_none edge high (first ∷ firsts) = let one = from_first_none edge first high in let rest = firsts_none edge high firsts in rw (one, rest) refl
+firsts_none edge high (first ∷ firsts) = let one = heavy_first edge first high in let rest = firsts_none edge high firsts in rw (one, rest) refl
 
 from_link_none : (net : Plan) (edge : Edge) → pos 0 ≤ℤ edge.weight → from_link net edge ≡ []
 from_link_none net edge high = by (activation net edge.from)

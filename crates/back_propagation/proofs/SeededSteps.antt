@@ -1,5 +1,5 @@
 -- A row that is seeded with what can still change it.
-use Rattle.std.proofs.Common.{◌≡◌, ℕ, suc, zero, ◌+◌, ◌<◌, ℤ, ◌==◌, ◌||◌, ◌&&◌, ◌%◌, Bool, true, false, cond, ◌⊎◌, List, [], ◌∷◌, ◌++◌, length, map, fold, get_or, Option, Some, None, refl, ap, sym, subst, ◌∙◌, inl, inr, arith, is_some}
+use Rattle.std.proofs.Common.{◌≡◌, ℕ, ◌<◌, ℤ, ◌==◌, ◌||◌, ◌&&◌, ◌%◌, Bool, true, false, cond, ◌⊎◌, List, [], ◌∷◌, ◌++◌, length, fold, get_or, Option, Some, None, refl, ap, sym, subst, ◌∙◌, inl, inr, arith, is_some}
 use Rattle.std.specs.Prelude.{slice_get, slice_set, filter, is_none}
 use Rattle.std.specs.Option.{option_map}
 use Rattle.std.specs.List.{Contains, list_any}
@@ -11,14 +11,14 @@ use Rattle.net_model.specs.Network.{Plan, IsPlan}
 use Rattle.net_model.specs.declared.ids.PointId.{PointId}
 use Rattle.net_model.specs.declared.part.Edge.{Edge}
 use Rattle.closure_model.specs.Keys.{Key, row_keys}
-use Rattle.closure_model.specs.ReferenceRow.{consequences, relaxed, edge_in, improved, first_slot, first_slots, reference_row}
+use Rattle.closure_model.specs.ReferenceRow.{consequences, relaxed, edge_in, improved, first_slots, reference_row}
 use Rattle.closure_model.specs.Tables.{Graph, HasEdge, IsFor, IsGraph, edges_of, row_of}
 use Rattle.closure_model.specs.declared.rows.Made.{Made}
 use Rattle.closure_model.specs.declared.rows.Slot.{Slot}
 use Rattle.closure_model.specs.declared.rows.Why.{Why}
 use Rattle.closure_model.proofs.RowRun.{in_row_key, law_rows_stay_within}
-use Rattle.closure_model.proofs.RowSteps.{unsettled}
-use Rattle.closure_model.proofs.Slots.{some_of_map, key_in, map_set_kept, relaxed_one, relaxed_change, change_settled}
+use Rattle.closure_model.proofs.RowSteps.{unsettled, unsettled-set, unsettled-relaxes}
+use Rattle.closure_model.proofs.Slots.{key_in, map_set_kept}
 use Rattle.closure_model.proofs.TableLemmas.{edge_listed}
 use Rattle.closure_model.specs.PrunedRows.{IsThinned, IsNextLive, IsAllDone, pruned_after, is_live}
 use Rattle.closure_model.proofs.ThinnedLemmas.{thinned_itself}
@@ -28,7 +28,9 @@ use Rattle.back_propagation.specs.SlotPlaces.{IsRowAgainst, IsOfRow, slot_key, H
 use Rattle.back_propagation.specs.BestKeys.{AreBest, IsSeededWithBest}
 use Rattle.back_propagation.specs.QueuedPlaces.{IsQueued, IsQueueItem, IsNextSlotFound}
 use Rattle.closure_model.proofs.Weights.{same_weight, le_of_same}
+use Rattle.closure_model.proofs.NextSlots.{unimproved_at_first}
 use Rattle.std.proofs.lemmas.Bool.{eqb-true}
+use Rattle.std.proofs.lemmas.List.{get_or_default}
 use Rattle.back_propagation.proofs.BestRuns.{IsPruned, pruned_first, pruned_step, pruned_done, pruned_derivable, pruned_unimproved}
 use Rattle.back_propagation.proofs.RowPlaces.{column_of_place}
 
@@ -65,27 +67,6 @@ before_is first edge ordinary meeting =
     let two : first.to.0 == edge.from.0 ≡ true = grind (arith, nat_tests) in λ i. one i && two i
 
 -- ---- fewer are left
-unsettled_set : (slots : List Slot) (k : ℕ) (old new : Slot) → slice_get slots k ≡ Some old → old.settled ≡ false → new.settled ≡ true → unsettled (slice_set slots k new) + 1 ≡ unsettled slots
-unsettled_set [] k old new here was is = absurd cc
-unsettled_set (x ∷ xs) zero old new here was is =
-    let same : x ≡ old = same_Some x old here in
-    let before : cond {A = ℕ} x.settled 0 1 ≡ 1 = ap (λ (b : Bool). cond {A = ℕ} b 0 1) (ap (λ (s : Slot). s.settled) same ∙ was) in
-    let after : cond {A = ℕ} new.settled 0 1 ≡ 0 = ap (λ (b : Bool). cond {A = ℕ} b 0 1) is in
-    omega arith
-unsettled_set (x ∷ xs) (suc k) old new here was is = let rest = unsettled_set xs k old new here was is in omega arith
-
-unsettled_relaxed : (slots : List Slot) (made : Made) → unsettled (relaxed slots made) ≡ unsettled slots
-unsettled_relaxed [] made = refl
-unsettled_relaxed (x ∷ xs) made =
-    let rest = unsettled_relaxed xs made in
-    let here : (relaxed_one made x).settled ≡ x.settled = change_settled made x (relaxed_one made x) (relaxed_change made x) in
-    let same : cond {A = ℕ} (relaxed_one made x).settled 0 1 ≡ cond {A = ℕ} x.settled 0 1 = ap (λ (b : Bool). cond {A = ℕ} b 0 1) here in
-    omega arith
-
-unsettled_relaxes : (list : List Made) (slots : List Slot) → unsettled (fold relaxed slots list) ≡ unsettled slots
-unsettled_relaxes [] slots = refl
-unsettled_relaxes (made ∷ list) slots = unsettled_relaxes list (relaxed slots made) ∙ unsettled_relaxed slots made
-
 -- ---- a live slot is settled
 module _ (net : Plan) (table : Graph) (to : PointId) (begins : ℕ → Bool) (slots : List Slot) (made : List Made) (items : List (ℤ × ℕ)) (one : ℤ × ℕ) (found : IsNextSlotFound begins slots items one) (d slot : Slot)
     (read : slot ≡ get_or slots one.1 d) where
@@ -127,8 +108,8 @@ module _ (net : Plan) (table : Graph) (to : PointId) (begins : ℕ → Bool) (sl
   module _ (delta : List (List Edge)) (after : List Slot) (is_after : after ≡ fold relaxed (slice_set slots one.1 (record slot { settled = true })) (what_follows net table delta (is_some slot.why) (edge_in to slot one.0))) where
     pub pruned_fewer : unsettled after < unsettled slots
     pruned_fewer =
-        let relaxes = unsettled_relaxes (what_follows net table delta (is_some slot.why) (edge_in to slot one.0)) (slice_set slots one.1 (record slot { settled = true })) in
-        let marked = unsettled_set slots one.1 slot (record slot { settled = true }) next_is.here next_is.open_slot refl in
+        let relaxes = unsettled-relaxes (what_follows net table delta (is_some slot.why) (edge_in to slot one.0)) (slice_set slots one.1 (record slot { settled = true })) in
+        let marked = unsettled-set slots one.1 slot (record slot { settled = true }) next_is.here next_is.open_slot refl in
         let same : unsettled after ≡ unsettled (fold relaxed (slice_set slots one.1 (record slot { settled = true })) (what_follows net table delta (is_some slot.why) (edge_in to slot one.0))) = ap unsettled is_after in
         omega arith
 
@@ -198,15 +179,12 @@ best_begin table to delta items are place weight from label total leads below =
       no_worse = matched.no_worse;
     }
 
-never_improved : (table : Graph) (keys : List Key) (place : ℕ) (slot : Slot) → slice_get (map (first_slot table) keys) place ≡ Some slot → slot.why ≡ None
-never_improved table keys place slot here = let (key, at, is) = some_of_map (first_slot table) (slice_get keys place) slot (sym (slice_get-map (first_slot table) keys place) ∙ here) in ap (λ (s : Slot). s.why) (sym is)
-
 pub best_queued : (table : Graph) (to : PointId) (delta : List (List Edge)) (items : List (ℤ × ℕ)) (slots : List Slot) → slots ≡ first_slots table to → AreBest table to delta items → IsQueued (contains_place items) slots items
 best_queued table to delta items slots first are = subst (λ (list : List Slot). IsQueued (contains_place items) list items) (sym first) (record { covers = covers; sound = waits })
   where
     covers : (place : ℕ) (slot : Slot) (weight : ℤ) → slice_get (first_slots table to) place ≡ Some slot → is_live (contains_place items) place slot ≡ true → slot.settled ≡ false → slot.weight ≡ Some weight → Contains items (weight, place)
     covers place slot weight here live is_open has =
-        let absent : slot.why ≡ None = never_improved table (row_keys table.shape to) place slot here in
+        let absent : slot.why ≡ None = unimproved_at_first table (row_keys table.shape to) place slot here in
         let among : contains_place items place ≡ true = sym (ap (λ (o : Option Why). is_some o || contains_place items place) absent) ∙ live in
         let (item, inside, at) = place_contained items place among in
         let (other, there, had) = are.sound item inside in
@@ -229,13 +207,8 @@ best_queued table to delta items slots first are = subst (λ (list : List Slot).
         or_right false b is = is
 
 -- ---- delta edges
-other_default : {X : Type 0} (xs : List X) (i : ℕ) (d e : X) → i < length xs → get_or xs i d ≡ get_or xs i e
-other_default [] i d e inside = absurd (omega arith)
-other_default (x ∷ xs) zero d e inside = refl
-other_default (x ∷ xs) (suc i) d e inside = other_default xs i d e (omega arith)
-
 pub delta_is : (delta : List (List Edge)) (point : PointId) (list read : List Edge) → point.0 < length delta → read ≡ get_or delta point.0 read → list ≡ read → list ≡ delta_at delta point
-delta_is delta point list read inside is same = same ∙ (is ∙ other_default delta point.0 read [] inside)
+delta_is delta point list read inside is same = same ∙ (is ∙ get_or_default delta point.0 read [] inside)
 
 pub delta_of_table : (table : Graph) (delta : List (List Edge)) (point : PointId) (list : List Edge) (i : ℕ) (d : Edge) → AreOfTable table delta → list ≡ delta_at delta point → i < length list → HasEdge table (get_or list i d)
 delta_of_table table delta point list i d of_table same inside = of_table point (get_or list i d) (subst (λ (l : List Edge). Contains l (get_or list i d)) same (Contains-get_or list i d inside))

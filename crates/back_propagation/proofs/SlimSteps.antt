@@ -55,11 +55,6 @@ read_set [] k new d inside = absurd (omega arith)
 read_set (x ∷ xs) zero new d inside = refl
 read_set (x ∷ xs) (suc k) new d inside = read_set xs k new d (omega arith)
 
-pub read_any : {X : Type 0} (xs : List X) (k : ℕ) (d e : X) → k < length xs → get_or xs k d ≡ get_or xs k e
-read_any [] k d e inside = absurd (omega arith)
-read_any (x ∷ xs) zero d e inside = refl
-read_any (x ∷ xs) (suc k) d e inside = read_any xs k d e (omega arith)
-
 pub same_or_apart : (k other : ℕ) → (k ≡ other) ⊎ (k ≢ other)
 same_or_apart k other = by (k == other) refl
   where

@@ -48,7 +48,7 @@ numbered_contained n (y ∷ ys) (suc k) x at =
     Contains-tail (n, y) (enumerate_from (n + 1) ys) (n + suc k, x) (subst (λ (m : ℕ). Contains (enumerate_from (n + 1) ys) (m, x)) moved (numbered_contained (n + 1) ys k x at))
 
 -- ---- sound edges
-within : (weight : ℤ) → within_size weight ≡ true → IsWeight weight
+pub within : (weight : ℤ) → within_size weight ≡ true → IsWeight weight
 within weight small = grind (arith, nat_tests)
 
 within_turned : (weight : ℤ) → pos 1 ≤ℤ weight → within_size weight ≡ true → IsWeight (pos 0 -ℤ weight)

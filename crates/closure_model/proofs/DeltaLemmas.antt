@@ -1,13 +1,12 @@
 -- After a round each row is closed against the table before it: of what follows from an edge of the table only what comes with a delta edge
 -- as first premise may be unsaturated.
-use Rattle.std.proofs.Common.{◌≡◌, ℕ, ℤ, pos, ◌+ℤ◌, ◌≤ℤ◌, ◌<ℤ◌, ◌||◌, Bool, true, false, ◌⊎◌, List, [], ◌∷◌, ◌++◌, map, Option, Some, None, refl, ap, sym, subst, ◌∙◌, inl, inr, arith, is_some}
-use Rattle.std.specs.Prelude.{filter, slice_get, int_lt}
+use Rattle.std.proofs.Common.{◌≡◌, ◌≢◌, ℕ, zero, suc, ◌<◌, ◌≤◌, ℤ, pos, ◌+ℤ◌, ◌≤ℤ◌, ◌<ℤ◌, ◌||◌, Bool, true, false, ◌⊎◌, List, [], ◌∷◌, ◌++◌, map, Option, Some, None, refl, ap, sym, subst, ◌∙◌, inl, inr, arith}
+use Rattle.std.specs.Prelude.{filter, slice_get, slice_set, int_lt}
 use Rattle.std.specs.Int.{int_max}
 use Rattle.std.specs.Option.{option_map_or}
 use Rattle.std.specs.List.{Contains, flat_map, list_any}
 use Rattle.std.proofs.lemmas.Int.{ints}
 use Rattle.std.proofs.lemmas.List.Elements.{Contains-append_cases}
-use Rattle.std.proofs.lemmas.Option.{slice_get-map}
 use Rattle.net_model.specs.Network.{Plan, IsPlan, activation}
 use Rattle.net_model.specs.Rules.{no_case, upper_case, lower_case, cross_case, removal, joined_weight}
 use Rattle.net_model.specs.declared.ids.LinkId.{LinkId}
@@ -16,22 +15,24 @@ use Rattle.net_model.specs.declared.part.Edge.{Edge}
 use Rattle.net_model.proofs.AppliedRuleLemmas.{no_case_applies, upper_case_applies}
 use Rattle.net_model.proofs.RuleLemmas.{NoCaseGives, UpperCaseGives, no_case_gives, upper_case_gives}
 use Rattle.closure_model.specs.DeltaEdges.{delta_at, AreOfTable, IsSaturatedBut, WasThere, has_improved, UnimprovedWereThere, RowsAreSaturatedAfterARound, UnstaleRowsMakeNothing}
-use Rattle.closure_model.specs.Keys.{Key, key_of, row_keys}
-use Rattle.closure_model.specs.PrunedRows.{IsThinned, is_live, IsSeededWithAll, IsAllDone, done}
-use Rattle.closure_model.specs.ReferenceRow.{given, ordinary_into, from_removal, over_link, from_link, from_first, consequences, edge_in, first_slot, first_slots, with_made, IsInRow, by_no_case, by_upper_case, by_lower_case, by_cross_case}
+use Rattle.closure_model.specs.Keys.{key_of, row_keys}
+use Rattle.closure_model.specs.PrunedRows.{IsThinned}
+use Rattle.closure_model.specs.ReferenceRow.{given, ordinary_into, from_removal, over_link, from_link, from_first, consequences, edge_in, improved, next_slot, first_slots, reference_row, with_made, Making, IsInRow, by_no_case, by_upper_case, by_lower_case, by_cross_case}
 use Rattle.closure_model.specs.ReferenceRow.{by_removal}
 use Rattle.closure_model.specs.ReferenceRound.{is_same_key, round_made}
 use Rattle.closure_model.specs.Tables.{Graph, weight_of, HasEdge, HasAtMost, IsFor, IsGraph}
 use Rattle.closure_model.specs.declared.rows.Made.{Made}
 use Rattle.closure_model.specs.declared.rows.Slot.{Slot}
+use Rattle.closure_model.specs.declared.rows.Why.{Why}
 use Rattle.closure_model.specs.declared.rows.Why.TheVariants.{No, Up, Low, Cross, Drop}
 use Rattle.closure_model.proofs.Consequences.{ordinary_from}
-use Rattle.closure_model.proofs.PrunedRuns.{pruned_rows}
 use Rattle.closure_model.proofs.Lists.{Contains-cases, Contains-none, Contains-map_from, Contains-filter_from}
+use Rattle.closure_model.proofs.NextSlots.{unimproved_at_first, making_of, next_weight, progress_after, fewer, relaxes_are}
 use Rattle.closure_model.proofs.RoundLaw.{is_same_key_of}
-use Rattle.closure_model.proofs.RowRun.{under_way_first}
+use Rattle.closure_model.proofs.RowRun.{IsUnderWay, under_way_first, under_way_done, next_there}
+use Rattle.closure_model.proofs.RowSteps.{unsettled, after_slot}
 use Rattle.closure_model.proofs.RowsAfter.{now_in_row, row_met}
-use Rattle.closure_model.proofs.Slots.{some_of_map}
+use Rattle.closure_model.proofs.SettledSlots.{marked, was_marked}
 use Rattle.closure_model.proofs.TableLemmas.{all_lowered-cases, at_most_from, at_most_gives}
 use Rattle.closure_model.proofs.ThinnedLemmas.{thinned_all, thinned_append, thinned_flat, given_is, heavy_all}
 use Rattle.closure_model.proofs.Weights.{le_refl, le_then}
@@ -148,30 +149,66 @@ law_rows_are_saturated_after_a_round net before delta plan fits sound are = (of_
         subst (λ (l : List Edge). IsThinned after (consequences net after edge) (flat_map (from_first edge) l)) (sym (are.lists edge.from)) (needs_delta net before plan fits sound edge has are.is_delta are.was_there)
 
 -- ---- a row that is not stale
+module _ (net : Plan) (table : Graph) (to : PointId) (plan : IsPlan net) (fits : IsFor net table) (sound : IsGraph table)
+    (dull : (slot : Slot) (weight : ℤ) → HasEdge table (edge_in to slot weight) → IsThinned table (consequences net table (edge_in to slot weight)) []) where
+  -- a row under way that made nothing so far
+  record IsIdle (making : Making) : Type 0 where
+    progress : IsUnderWay net table to making
+    unimproved : (place : ℕ) (slot : Slot) → slice_get making.slots place ≡ Some slot → slot.why ≡ None
+    nothing : making.made ≡ []
+
+  idle_first : IsIdle (record { slots = first_slots table to; made = [] })
+  idle_first = record { progress = under_way_first net table to; unimproved = unimproved_at_first table (row_keys table.shape to); nothing = refl }
+
+  idle_next : (making : Making) → IsIdle making → (place : ℕ) (weight : ℤ) (slot : Slot) → next_slot making.slots ≡ Some (place, weight) → slice_get making.slots place ≡ Some slot
+      → IsIdle (after_slot net table to making (place, weight) slot)
+  idle_next making idle place weight slot some here = record {
+    progress = progress_after net table to plan fits sound making idle.progress place weight some slot here;
+    unimproved = λ other after there. by other after (was_marked making.slots place slot here other after (subst (λ (l : List Slot). slice_get l other ≡ Some after) slots_are there));
+    nothing = (λ i. idle.nothing i ++ improves_nothing i);
+  }
+    where
+      absent : slot.why ≡ None
+      absent = idle.unimproved place slot here
+
+      held : HasEdge table (edge_in to slot weight)
+      held = sym ((making_of net table to plan fits sound making idle.progress).partly.row.unimproved place slot here absent) ∙ next_weight net table to plan fits sound making idle.progress place weight some slot here
+
+      slots_are : (after_slot net table to making (place, weight) slot).slots ≡ slice_set making.slots place (marked slot)
+      slots_are = relaxes_are net table to plan fits sound making idle.progress place weight some slot here [] (dull slot weight held)
+
+      improves_nothing : improved to slot weight ≡ []
+      improves_nothing = ap (λ (o : Option Why). option_map_or (λ why. record { edge = edge_in to slot weight; why = why } ∷ []) o []) absent
+
+      by : (other : ℕ) (after : Slot) → ((other ≡ place) × (marked slot ≡ after)) ⊎ ((other ≢ place) × (slice_get making.slots other ≡ Some after)) → after.why ≡ None
+      by other after (inl (equal, is)) = ap (λ (s : Slot). s.why) (sym is) ∙ absent
+      by other after (inr (apart, at)) = idle.unimproved other after at
+
+  idle_step : (making : Making) → IsIdle making → ((later : Making) → IsIdle later → unsettled later.slots < unsettled making.slots → reference_row net table to ≡ []) → (o : Option (ℕ × ℤ)) → next_slot making.slots ≡ o
+      → reference_row net table to ≡ []
+  idle_step making idle again None end = sym (under_way_done net table to making end idle.progress) ∙ idle.nothing
+  idle_step making idle again (Some (place, weight)) some =
+      let there = next_there net table to making (place, weight) some in
+      again (after_slot net table to making (place, weight) there.slot) (idle_next making idle place weight there.slot some there.here)
+      (fewer net table to plan fits sound making idle.progress place weight some there.slot there.here)
+
+  idle_row : (count : ℕ) (making : Making) → IsIdle making → unsettled making.slots ≤ count → reference_row net table to ≡ []
+  idle_row zero making idle enough = idle_step making idle (λ later _ less. absurd (omega arith)) (next_slot making.slots) refl
+  idle_row (suc count) making idle enough = idle_step making idle (λ later idle' less. idle_row count later idle' (omega arith)) (next_slot making.slots) refl
+
 pub law_unstale_rows_make_nothing : UnstaleRowsMakeNothing
 law_unstale_rows_make_nothing net table to delta plan fits sound met_but unstale =
-    sym (pruned_rows net table to (λ _. false) [] plan fits sound dull (done (first_slots table to) [] all_done))
+    idle_row net table to plan fits sound dull (unsettled (first_slots table to)) (record { slots = first_slots table to; made = [] }) (idle_first net table to plan fits sound dull) (omega arith)
   where
-    untouched_slot : (keys : List Key) (place : ℕ) (slot : Slot) → slice_get (map (first_slot table) keys) place ≡ Some slot → slot.why ≡ None
-    untouched_slot keys place slot here = let (key, at, is) = some_of_map (first_slot table) (slice_get keys place) slot (sym (slice_get-map (first_slot table) keys place) ∙ here) in ap (λ (s : Slot). s.why) (sym is)
+    light : (w : ℤ) → int_lt w (pos 0) ≡ true → w <ℤ pos 0
+    light w t = grind (arith, ints)
 
-    dull : IsSeededWithAll net table to (λ _. false)
-    dull place slot weight here out has =
-        let row = ((under_way_first net table to).is plan fits sound).partly.row in
-        let held : HasEdge table (edge_in to slot weight) = sym (row.unimproved place slot here (untouched_slot (row_keys table.shape to) place slot here)) ∙ has in
-        subst (IsThinned table (consequences net table (edge_in to slot weight))) (by (int_lt weight (pos 0)) refl held) (met_but (edge_in to slot weight) held refl)
+    heavy : (w : ℤ) → int_lt w (pos 0) ≡ false → pos 0 ≤ℤ w
+    heavy w t = grind (arith, ints)
+
+    dull : (slot : Slot) (weight : ℤ) → HasEdge table (edge_in to slot weight) → IsThinned table (consequences net table (edge_in to slot weight)) []
+    dull slot weight held = subst (IsThinned table (consequences net table (edge_in to slot weight))) (by (int_lt weight (pos 0)) refl) (met_but (edge_in to slot weight) held refl)
       where
-        light : (w : ℤ) → int_lt w (pos 0) ≡ true → w <ℤ pos 0
-        light w t = grind (arith, ints)
-
-        heavy : (w : ℤ) → int_lt w (pos 0) ≡ false → pos 0 ≤ℤ w
-        heavy w t = grind (arith, ints)
-
-        by : (b : Bool) → int_lt weight (pos 0) ≡ b → HasEdge table (edge_in to slot weight) → flat_map (from_first (edge_in to slot weight)) (delta_at delta slot.from) ≡ []
-        by true test held = ap (flat_map (from_first (edge_in to slot weight))) (unstale (edge_in to slot weight) held refl (light weight test))
-        by false test held = heavy_all (edge_in to slot weight) (delta_at delta slot.from) (heavy weight test)
-
-    all_done : IsAllDone (λ _. false) (first_slots table to)
-    all_done place slot w here live has =
-        let absent = untouched_slot (row_keys table.shape to) place slot here in
-        let dead : is_live (λ _. false) place slot ≡ false = ap (λ (o : Option _). is_some o || false) absent in absurd cc
+        by : (b : Bool) → int_lt weight (pos 0) ≡ b → flat_map (from_first (edge_in to slot weight)) (delta_at delta slot.from) ≡ []
+        by true test = ap (flat_map (from_first (edge_in to slot weight))) (unstale (edge_in to slot weight) held refl (light weight test))
+        by false test = heavy_all (edge_in to slot weight) (delta_at delta slot.from) (heavy weight test)

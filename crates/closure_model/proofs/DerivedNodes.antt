@@ -1,6 +1,6 @@
 -- A node that follows from the nodes before it, rule by rule with its premises; and what that gives: its edge is derivable, its
 -- premises stand earlier, and a labelled node rests on its label.
-use Rattle.std.proofs.Common.{ℤ, true, ◌++◌, length, ◌⊎◌, inl, inr, ◌≡◌, ℕ, zero, suc, ◌≤◌, ◌<◌, List, [], ◌∷◌, take, Some, None, refl, ap, sym, ◌∙◌, subst, arith}
+use Rattle.std.proofs.Common.{◌++◌, length, ◌⊎◌, inl, inr, ◌≡◌, ℕ, zero, suc, ◌≤◌, ◌<◌, List, [], ◌∷◌, take, Some, None, refl, ap, sym, ◌∙◌, subst, arith}
 use Rattle.std.specs.Prelude.{slice_get}
 use Rattle.std.proofs.Math.Seq.{take-length}
 use Rattle.std.specs.Option.{option_and_then}
@@ -8,9 +8,7 @@ use Rattle.std.specs.List.{All, Contains}
 use Rattle.std.proofs.lemmas.List.Elements.{All-cons, All-nil, All-contains}
 use Rattle.net_model.proofs.RuleLemmas.{no_case_gives, upper_case_gives, lower_case_gives, cross_case_gives, removal_gives, two_steps}
 use Rattle.net_model.specs.Network.{Plan, IsPlan}
-use Rattle.net_model.specs.Limits.{most_weight, within_size, IsWeight}
-use Rattle.std.proofs.lemmas.Int.{ints}
-use Rattle.std.proofs.lemmas.Bool.Decides.{nat_tests}
+use Rattle.net_model.specs.Limits.{most_weight, IsWeight}
 use Rattle.closure_model.proofs.DerivableEdges.{bound_at, link_at, joined_within, moved_within, without_label_within, turned_within, between_within, positive}
 use Rattle.net_model.specs.Edges.{IsLinkOf}
 use Rattle.net_model.specs.Rules.{bound_edge, link_edge, no_case, upper_case, lower_case, cross_case, removal}
@@ -29,7 +27,9 @@ use Rattle.closure_model.specs.declared.derivation.NodeId.{NodeId}
 use Rattle.closure_model.specs.declared.derivation.Rule.{Rule}
 use Rattle.closure_model.specs.declared.derivation.Rule.TheVariants as by_rule
 use Rattle.closure_model.proofs.Lists.{Contains-head, Contains-tail}
-use Rattle.closure_model.proofs.Nodes.{IsPremise, premise_read, mapped, push_cases, listed_at}
+use Rattle.closure_model.proofs.Nodes.{IsPremise, premise_read, push_cases, listed_at}
+use Rattle.closure_model.proofs.Slots.{some_of_map}
+use Rattle.closure_model.proofs.BaseLemmas.{within as small}
 
 pub data Made (net : Plan) (nodes : List Node) (limit : ℕ) (edge : Edge) : Rule → Type 0 where
   made_bound : (name : BoundId) (bound : Bound) → slice_get net.bounds name.0 ≡ Some bound → bound_edge bound ≡ edge → Made net nodes limit edge (by_rule.Bound name)
@@ -43,9 +43,9 @@ pub data Made (net : Plan) (nodes : List Node) (limit : ℕ) (edge : Edge) : Rul
 module _ (net : Plan) (nodes : List Node) (limit : ℕ) (edge : Edge) where
   pub made : (rule : Rule) → given_by net (take limit nodes) rule ≡ Some edge → Made net nodes limit edge rule
   made (by_rule.Bound name) gave =
-      let (bound, declared, is) = mapped bound_edge (slice_get net.bounds name.0) edge gave in made_bound name bound declared is
+      let (bound, declared, is) = some_of_map bound_edge (slice_get net.bounds name.0) edge gave in made_bound name bound declared is
   made (by_rule.Link name) gave =
-      let (link, declared, is) = mapped (link_edge name) (slice_get net.links name.0) edge gave in made_link name link declared is
+      let (link, declared, is) = some_of_map (link_edge name) (slice_get net.links name.0) edge gave in made_link name link declared is
   made (by_rule.No first second) gave =
       let (one, read_one, then) = two_steps (λ (e : Edge). option_and_then (no_case e) (edge_at (take limit nodes) second)) (edge_at (take limit nodes) first) edge gave in
       let (two, read_two, is) = two_steps (no_case one) (edge_at (take limit nodes) second) edge then in
@@ -197,9 +197,6 @@ rests_cases nodes id node what here rests = by rests.under
         inr (premise, subst (λ (n : Node). Contains (premises_of n.rule) premise) is among, record { below = rests.below; node = rests.node; under = rest; here = rests.here; uses = rests.uses })
 
 -- ---- a node that follows from nodes of weights within the limit has such a weight
-small : (weight : ℤ) → within_size weight ≡ true → IsWeight weight
-small weight within = grind (arith, ints, nat_tests)
-
 module _ (net : Plan) (plan : IsPlan net) (nodes : List Node) (within : All (λ (n : Node). IsWeight n.edge.weight) nodes) where
   premise_within : (limit : ℕ) (id : NodeId) (edge : Edge) → IsPremise nodes limit id edge → IsWeight edge.weight
   premise_within limit id edge read =

@@ -1,6 +1,7 @@
 -- Rounds are at most one more than the points.
 use Rattle.std.proofs.Common.{◌≡◌, ◌≢◌, ℕ, ℤ, pos, ◌<ℤ◌, suc, ◌+◌, ◌<◌, ◌≤◌, ◌&&◌, Bool, true, false, List, [], ◌∷◌, ◌++◌, length, Option, Some, None, refl, ap, sym, subst, ◌∙◌, arith}
 use Rattle.std.specs.List.{Contains, find, flat_map}
+use Rattle.std.proofs.lemmas.Bool.{and_parts}
 use Rattle.net_model.specs.Network.{Plan, IsPlan}
 use Rattle.net_model.specs.declared.ids.PointId.{PointId}
 use Rattle.closure_model.specs.Derivations.{Support, StandsOn}
@@ -13,7 +14,7 @@ use Rattle.closure_model.specs.RoundLaws.{RoundsAreFew, UnstaleRowsStay}
 use Rattle.closure_model.specs.Tables.{weight_of}
 use Rattle.closure_model.proofs.Consequences.{all_points_stand}
 use Rattle.closure_model.proofs.Lists.{Contains-head, Contains-tail}
-use Rattle.closure_model.proofs.OrderLemmas.{both_true, find_none, find_some, in_points}
+use Rattle.closure_model.proofs.OrderLemmas.{find_none, find_some, in_points}
 use Rattle.closure_model.proofs.RoundClosure.{standing_fits, standing_sound}
 use Rattle.closure_model.proofs.RoundsLaw.{law_rounds_keep_standing}
 use Rattle.closure_model.proofs.RowsNeedRows.{law_rows_need_improved_rows, gone_edge}
@@ -66,7 +67,7 @@ module _ (net : Plan) (plan : IsPlan net) where
       by : (o : Option PointId) → find (from_test was to) (all_points (after_round net was).table.shape) ≡ o → ComesFrom was to
       by (Some from) is =
           let found = find_some (from_test was to) (all_points (after_round net was).table.shape) from is in
-          let (went, improved) = both_true (goes (after_round net was).table from to) (has_some (reference_row net was.table from)) found.passes in
+          let (went, improved) = and_parts (goes (after_round net was).table from to) (has_some (reference_row net was.table from)) found.passes in
           record { from = from; went = went; improved = some_there (reference_row net was.table from) improved }
       by None is = absurd (some (law_rows_need_improved_rows net was to plan stands still))
         where

@@ -43,7 +43,8 @@ pub mod RowsNeedRows
 pub mod Walks
 pub mod FewRounds
 pub mod RoundsEndings
-pub mod PrunedRuns
+pub mod VainRelaxations
+pub mod NextSlots
 pub mod ThinnedLemmas
 pub mod DeltaLemmas
 pub mod OrderStays

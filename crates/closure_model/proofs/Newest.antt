@@ -16,8 +16,8 @@ use Rattle.closure_model.specs.declared.derivation.NodeId.{NodeId}
 use Rattle.closure_model.proofs.KeyOrder.{key_test}
 use Rattle.closure_model.proofs.Lists.{Contains-map, Contains-map_from}
 use Rattle.closure_model.proofs.TableLemmas.{table_of-given, table_of-has, least-in_table_of, at_most_gives}
-use Rattle.closure_model.proofs.ReachedTables.{at_place}
 use Rattle.closure_model.proofs.Nodes.{before_push, at_push, push_cases, listed_at}
+use Rattle.closure_model.proofs.BaseLemmas.{slice_get-contained}
 
 abbrev new_id : List Node → NodeId
 new_id nodes = record { 0 = length nodes }
@@ -77,7 +77,7 @@ module _ (shape : Shape) (nodes : List Node) where
   pub node_of_edge : (edge : Edge) → Contains (edges_of_nodes nodes) edge → (id : NodeId) × (node : Node) × (node_at nodes id ≡ Some node) × (node.edge ≡ edge)
   node_of_edge edge inside =
       let (node, among, is) = Contains-map_from (λ (m : Node). m.edge) nodes edge inside in
-      let (place, here) = at_place nodes node among in
+      let (place, here) = slice_get-contained nodes node among in
       (record { 0 = place }, node, here, is)
 
   pub newest_held : (key : Key) (id : NodeId) (was : IsNodeOf nodes key id) → HasEdge (table_of shape (edges_of_nodes nodes)) was.node.edge

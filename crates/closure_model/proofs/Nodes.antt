@@ -1,7 +1,6 @@
 -- Nodes of a derivation list by their numbers: in the nodes before one, and after one more.
-use Rattle.std.proofs.Common.{◌≡◌, ℕ, zero, suc, min, ◌<◌, ◌⊎◌, List, [], ◌∷◌, ◌++◌, length, get_or, take, Option, Some, None, refl, ap, sym, ◌∙◌, inl, inr, arith}
+use Rattle.std.proofs.Common.{◌≡◌, ℕ, zero, suc, min, ◌<◌, ◌⊎◌, List, [], ◌∷◌, ◌++◌, length, get_or, take, Some, refl, ap, sym, ◌∙◌, inl, inr, arith}
 use Rattle.std.specs.Prelude.{slice_get}
-use Rattle.std.specs.Option.{option_map}
 use Rattle.std.specs.List.{Contains}
 use Rattle.std.proofs.lemmas.List.{get_or-take, length-take}
 use Rattle.std.proofs.lemmas.Option.{slice_get_read, slice_get_within, get_or_from_slice_get}
@@ -9,6 +8,7 @@ use Rattle.net_model.specs.declared.part.Edge.{Edge}
 use Rattle.closure_model.specs.Derivations.{node_at, edge_at}
 use Rattle.closure_model.specs.declared.derivation.Node.{Node}
 use Rattle.closure_model.specs.declared.derivation.NodeId.{NodeId}
+use Rattle.closure_model.proofs.Slots.{some_of_map}
 
 module _ {X : Type 0} where
   -- an item among the first ones
@@ -51,12 +51,8 @@ pub record IsPremise (nodes : List Node) (limit : ℕ) (id : NodeId) (edge : Edg
   pub here : node_at nodes id ≡ Some node
   pub is : node.edge ≡ edge
 
-pub mapped : {A B : Type 0} (f : A → B) (o : Option A) (y : B) → option_map f o ≡ Some y → (x : A) × (o ≡ Some x) × (f x ≡ y)
-mapped f None y is = absurd cc
-mapped f (Some x) y is = (x, refl, cc)
-
 pub premise_read : (nodes : List Node) (limit : ℕ) (id : NodeId) (edge : Edge) → edge_at (take limit nodes) id ≡ Some edge → IsPremise nodes limit id edge
 premise_read nodes limit id edge read =
-    let (node, there, is) = mapped (λ (m : Node). m.edge) (slice_get (take limit nodes) id.0) edge read in
+    let (node, there, is) = some_of_map (λ (m : Node). m.edge) (slice_get (take limit nodes) id.0) edge read in
     let (earlier, here) = among_first limit nodes id.0 node there in
     record { node = node; earlier = earlier; here = here; is = is }

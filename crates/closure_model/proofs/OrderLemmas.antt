@@ -4,7 +4,7 @@ use Rattle.std.proofs.Common.{arith}
 use Rattle.std.specs.Prelude.{is_none}
 use Rattle.std.specs.Option.{option_map_or, option_to_list}
 use Rattle.std.specs.List.{All, AllPairs, Contains, find, position_or_len, range_with_len}
-use Rattle.std.proofs.lemmas.Bool.{eqb-true, cases_lt}
+use Rattle.std.proofs.lemmas.Bool.{eqb-true, cases_lt, and_parts, not-true, false_from_ne_true}
 use Rattle.std.proofs.lemmas.Bool.Decides.{nat_tests}
 use Rattle.std.proofs.lemmas.List.{append-nil, get_or_append_left, get_or-append_right, get_or-drop, length_push, length-drop}
 use Rattle.std.proofs.lemmas.List.Elements.{All-push, All-drop, Contains-append_left, Contains-push, Contains-push_cases, Contains-get_or}
@@ -38,14 +38,6 @@ find_some p (y ∷ ys) x found = by (find_some p ys x) (p y) refl found
     by : (find p ys ≡ Some x → IsFound p ys x) → (b : Bool) → p y ≡ b → cond b (Some y) (find p ys) ≡ Some x → IsFound p (y ∷ ys) x
     by rest true is here = let same : y ≡ x = cc in record { inside = subst (Contains (y ∷ ys)) same (Contains-head y ys); passes = ap p (sym same) ∙ is }
     by rest false is there = let found = rest there in record { inside = Contains-tail y ys x found.inside; passes = found.passes }
-
-pub both_true : (a b : Bool) → (a && b) ≡ true → (a ≡ true) × (b ≡ true)
-both_true true b holds = (refl, holds)
-both_true false b holds = absurd cc
-
-from_not : (b : Bool) → not b ≡ true → b ≡ false
-from_not true holds = absurd cc
-from_not false holds = refl
 
 -- ---- points in a list
 pub among_from : (ps : List PointId) (p : PointId) → Contains ps p → contains_point ps p ≡ true
@@ -141,7 +133,7 @@ left graph ps = count (λ p. not (contains_point ps p)) (all_points graph.shape)
 
 left_decreases : (graph : Graph) (ps : List PointId) (p : PointId) → Contains (all_points graph.shape) p → contains_point ps p ≡ false → left graph (ps ++ p ∷ []) + 1 ≤ left graph ps
 left_decreases graph ps p inside out =
-    count_decreases (λ q. not (contains_point ps q)) (λ q. not (contains_point (ps ++ p ∷ []) q)) (λ q more. ap not (not_among_less ps p q (from_not (contains_point (ps ++ p ∷ []) q) more))) (all_points graph.shape) p inside (ap not out)
+    count_decreases (λ q. not (contains_point ps q)) (λ q. not (contains_point (ps ++ p ∷ []) q)) (λ q more. ap not (not_among_less ps p q (not-true (contains_point (ps ++ p ∷ []) q) more))) (all_points graph.shape) p inside (ap not out)
     (ap not (among_last ps p))
 
 left_most : (graph : Graph) (ps : List PointId) → left graph ps ≤ graph.shape.points
@@ -167,8 +159,8 @@ steps_left graph (suc k) = by (free graph (placed_after graph k)) refl (steps_le
     by (Some p) is (inr bound) =
         let same : place_next graph (placed_after graph k) ≡ placed_after graph k ++ p ∷ [] = ap (λ o. placed_after graph k ++ option_to_list o) is in
         let found = find_some (is_free graph (placed_after graph k)) (all_points graph.shape) p is in
-        let out : contains_point (placed_after graph k) p ≡ false = from_not (contains_point (placed_after graph k) p)
-        (both_true (not (contains_point (placed_after graph k) p)) (is_none (next_on graph (placed_after graph k) p)) found.passes).0 in
+        let out : contains_point (placed_after graph k) p ≡ false = not-true (contains_point (placed_after graph k) p)
+        (and_parts (not (contains_point (placed_after graph k) p)) (is_none (next_on graph (placed_after graph k) p)) found.passes).0 in
         let fewer = left_decreases graph (placed_after graph k) p found.inside out in
         let now : left graph (place_next graph (placed_after graph k)) ≡ left graph (placed_after graph k ++ p ∷ []) = ap (left graph) same in
         inr (omega arith)
@@ -182,7 +174,7 @@ none_free graph = by (free graph (placed_points graph)) refl (steps_left graph g
     by (Some p) is (inl none) = none
     by (Some p) is (inr bound) =
         let found = find_some (is_free graph (placed_points graph)) (all_points graph.shape) p is in
-        let out = (both_true (not (contains_point (placed_points graph) p)) (is_none (next_on graph (placed_points graph) p)) found.passes).0 in
+        let out = (and_parts (not (contains_point (placed_points graph) p)) (is_none (next_on graph (placed_points graph) p)) found.passes).0 in
         let some : 1 ≤ left graph (placed_points graph) = count_some (λ q. not (contains_point (placed_points graph) q)) (all_points graph.shape) p found.inside out in
         absurd (omega arith)
 
@@ -205,21 +197,17 @@ from_none (Some x) holds = absurd cc
 pub free_point : (graph : Graph) (ps : List PointId) (p : PointId) → free graph ps ≡ Some p → IsFreePoint graph ps p
 free_point graph ps p is =
     let found = find_some (is_free graph ps) (all_points graph.shape) p is in
-    let (out, none) = both_true (not (contains_point ps p)) (is_none (next_on graph ps p)) found.passes in
+    let (out, none) = and_parts (not (contains_point ps p)) (is_none (next_on graph ps p)) found.passes in
     let nowhere : next_on graph ps p ≡ None = from_none (next_on graph ps p) none in
     record {
       inside = in_points graph p found.inside;
-      out = from_not (contains_point ps p) out;
+      out = not-true (contains_point ps p) out;
       placed = λ to low went. by to went (find_none (goes_on graph ps p) (all_points graph.shape) to nowhere (Contains-points 0 graph.shape.points to (omega arith) (omega arith))) (contains_point ps to) refl;
     }
   where
     by : (to : PointId) → goes graph p to ≡ true → (goes graph p to && not (contains_point ps to)) ≡ false → (b : Bool) → contains_point ps to ≡ b → contains_point ps to ≡ true
     by to went stops true among = among
     by to went stops false out = let on : (goes graph p to && not (contains_point ps to)) ≡ true = (λ i. went i && not (out i)) in absurd cc
-
-not_both : (b : Bool) → (b ≡ true → ⊥) → b ≡ false
-not_both true no_way = absurd (no_way refl)
-not_both false no_way = refl
 
 placing_more : (graph : Graph) (ps : List PointId) (p : PointId) → IsPlacing graph ps → IsFreePoint graph ps p → IsPlacing graph (ps ++ p ∷ [])
 placing_more graph ps p placing is = record { inside = inside; once = once; closed = closed; descends = descends }
@@ -253,7 +241,7 @@ placing_more graph ps p placing is = record { inside = inside; once = once; clos
         (λ low. let one = early i d (omega arith) in let two = early j d low in (λ k. goes graph (one k) (two k)) ∙ placing.descends i j d less low)
         (λ past. let at : j ≡ length ps = omega (arith, length_push ps p) in
         let here : get_or (ps ++ p ∷ []) j d ≡ p = ap (λ k. get_or (ps ++ p ∷ []) k d) at ∙ last d in
-        ap (goes graph (get_or (ps ++ p ∷ []) i d)) here ∙ not_both (goes graph (get_or (ps ++ p ∷ []) i d) p) (λ went.
+        ap (goes graph (get_or (ps ++ p ∷ []) i d)) here ∙ false_from_ne_true (goes graph (get_or (ps ++ p ∷ []) i d) p) (λ went.
         let among : contains_point ps p ≡ true = ⊎_elim
         (λ old. let one = early i d old in placing.closed (get_or ps i d) p (Contains-get_or ps i d old) is.inside (ap (λ q. goes graph q p) (sym one) ∙ went))
         (λ self. let itself : i ≡ length ps = omega (arith, length_push ps p) in let me : get_or (ps ++ p ∷ []) i d ≡ p = ap (λ k. get_or (ps ++ p ∷ []) k d) itself ∙ last d in
@@ -304,8 +292,8 @@ pub record GoesOn (graph : Graph) (ps : List PointId) (p next : PointId) : Type 
 pub next_goes_on : (graph : Graph) (ps : List PointId) (p next : PointId) → next_on graph ps p ≡ Some next → GoesOn graph ps p next
 next_goes_on graph ps p next is =
     let found = find_some (goes_on graph ps p) (all_points graph.shape) next is in
-    let (went, out) = both_true (goes graph p next) (not (contains_point ps next)) found.passes in
-    record { inside = in_points graph next found.inside; out = from_not (contains_point ps next) out; went = went }
+    let (went, out) = and_parts (goes graph p next) (not (contains_point ps next)) found.passes in
+    record { inside = in_points graph next found.inside; out = not-true (contains_point ps next) out; went = went }
 
 -- if no point is free, a walk can go on from each point that is left
 left_goes_on : (graph : Graph) (ps : List PointId) (p : PointId) → free graph ps ≡ None → p.0 < graph.shape.points → contains_point ps p ≡ false → next_on graph ps p ≡ None → ⊥
@@ -400,7 +388,7 @@ law_cycles_are_met graph first is =
     let found = find_some (λ q. not (contains_point (placed_points graph) q)) (all_points graph.shape) first is in
     cycle_met graph (placed_points graph) (none_free graph) (graph.shape.points + 1) [] first
     (record { points = λ i d inside. absurd (omega arith); steps = λ i d inside. absurd (omega arith); here = λ d some. absurd (omega arith) })
-    (in_points graph first found.inside) (from_not (contains_point (placed_points graph) first) found.passes) (omega (arith, left_most graph []))
+    (in_points graph first found.inside) (not-true (contains_point (placed_points graph) first) found.passes) (omega (arith, left_most graph []))
 
 -- ---- an order excludes cycles
 abbrev pub place : List PointId → PointId → ℕ

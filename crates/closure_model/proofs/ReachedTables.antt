@@ -16,9 +16,7 @@ use Rattle.closure_model.specs.Closure.{HoldsDerivable, IsReached, base, more}
 use Rattle.closure_model.proofs.Lists.{Contains-map_from}
 use Rattle.closure_model.proofs.TableLemmas.{table_of-given, listed_edge, lowered-cases}
 use Rattle.closure_model.proofs.DerivableEdges.{follows_derivable}
-
-pub at_place : {X : Type 0} (xs : List X) (x : X) → Contains xs x → (k : ℕ) × (slice_get xs k ≡ Some x)
-at_place xs x (k, inside, at) = (k, slice_get_read xs _ k x refl inside (sym at))
+use Rattle.closure_model.proofs.BaseLemmas.{slice_get-contained}
 
 module _ {X : Type 0} where
   pub numbered_at : (xs : List X) (e : ℕ × X) → Contains (enumerate_from 0 xs) e → slice_get xs e.0 ≡ Some e.1
@@ -37,7 +35,7 @@ base_edge_derivable net edge inside =
     by : Contains (map bound_edge net.bounds) edge ⊎ Contains (map (λ (e : ℕ × Link). link_edge (record { 0 = e.0 }) e.1) (enumerate_from 0 net.links)) edge → IsDerivable net edge
     by (inl there) =
         let (bound, held, is) = Contains-map_from bound_edge net.bounds edge there in
-        let (place, declared) = at_place net.bounds bound held in
+        let (place, declared) = slice_get-contained net.bounds bound held in
         by_bound place bound edge declared is
     by (inr there) =
         let (e, held, is) = Contains-map_from (λ (e : ℕ × Link). link_edge (record { 0 = e.0 }) e.1) (enumerate_from 0 net.links) edge there in

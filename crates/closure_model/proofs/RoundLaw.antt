@@ -3,7 +3,7 @@ use Rattle.std.proofs.Common.{◌≡◌, ℕ, zero, suc, ◌+◌, ◌≤◌, ℤ
 use Rattle.std.specs.Prelude.{slice_get, MatchOption}
 use Rattle.std.specs.Option.{option_map, option_map_or, option_and_then}
 use Rattle.std.specs.List.{Contains, flat_map, range_with_len}
-use Rattle.std.proofs.lemmas.Bool.{eqb-true}
+use Rattle.std.proofs.lemmas.Bool.{eqb-true, and_parts}
 use Rattle.std.proofs.lemmas.Bool.Decides.{nat_tests}
 use Rattle.std.proofs.lemmas.Option.{same_Some}
 use Rattle.std.proofs.lemmas.List.Elements.{All-contains}
@@ -29,13 +29,13 @@ use Rattle.closure_model.proofs.LawProofs.{law_tables_match_nodes, law_following
 use Rattle.closure_model.proofs.Lists.{Contains-head, Contains-tail}
 use Rattle.closure_model.proofs.Nodes.{before_push}
 use Rattle.closure_model.proofs.RowLaw.{row_result, row_is_grounded}
-use Rattle.closure_model.proofs.Slots.{same_label_is, same_label_itself, both}
+use Rattle.closure_model.proofs.Slots.{same_label_is, same_label_itself}
 
 -- ---- the node of a key
 pub same_key_is : (one other : Edge) → is_same_key one other ≡ true → key_of other ≡ key_of one
 same_key_is one other same =
-    let (tos, rest) = both (one.to.0 == other.to.0) (one.from.0 == other.from.0 && same_label one.label other.label) same in
-    let (froms, labels) = both (one.from.0 == other.from.0) (same_label one.label other.label) rest in
+    let (tos, rest) = and_parts (one.to.0 == other.to.0) (one.from.0 == other.from.0 && same_label one.label other.label) same in
+    let (froms, labels) = and_parts (one.from.0 == other.from.0) (same_label one.label other.label) rest in
     let to : other.to ≡ one.to = ap (λ (k : ℕ). record { 0 = k }) (sym (eqb-true one.to.0 other.to.0 tos)) in
     let from : other.from ≡ one.from = ap (λ (k : ℕ). record { 0 = k }) (sym (eqb-true one.from.0 other.from.0 froms)) in
     let label : other.label ≡ one.label = sym (same_label_is one.label other.label labels) in
@@ -187,7 +187,7 @@ all_stand net table before support now (one ∷ made) old was grounded =
 
 -- ---- the rows of a round, one after another
 -- a consequence ends where its premise does
-consequence_ends : (net : Plan) (table : Graph) (premise : Edge) (made : Made) → IsConsequence net table premise made → made.edge.to ≡ premise.to
+pub consequence_ends : (net : Plan) (table : Graph) (premise : Edge) (made : Made) → IsConsequence net table premise made → made.edge.to ≡ premise.to
 consequence_ends net table premise made (removed is why) = ap (λ (e : Edge). e.to) (sym (removal_gives net premise made.edge is).is)
 consequence_ends net table premise made (moved name is why) = ap (λ (e : Edge). e.to) (sym (lower_case_gives net name premise made.edge is).is)
 consequence_ends net table premise made (crossed name is why) = ap (λ (e : Edge). e.to) (sym (cross_case_gives net name premise made.edge is).is)

@@ -89,9 +89,9 @@ module _ (net : Plan) (table : Graph) (to : PointId) (plan : IsPlan net) (fits :
 
     later_listed : (other : ℕ) (after : Slot) (why : Why) (weight : ℤ) → slice_get later.slots other ≡ Some after → after.settled ≡ true → after.why ≡ Some why → after.weight ≡ Some weight
         → Contains later.made (record { edge = edge_in to after weight; why = why })
-    later_listed other after why weight there settled some has_it = by (was_marked net table to plan fits sound making.slots place slot low here is_open has other after (later_after.back other after there settled))
+    later_listed other after why weight there settled some has_it = by (was_marked making.slots place slot here other after (later_after.back other after there settled))
       where
-        by : ((other ≡ place) × (marked net table to plan fits sound slot ≡ after)) ⊎ ((other ≢ place) × (slice_get making.slots other ≡ Some after)) → Contains later.made (record { edge = edge_in to after weight; why = why })
+        by : ((other ≡ place) × (marked slot ≡ after)) ⊎ ((other ≢ place) × (slice_get making.slots other ≡ Some after)) → Contains later.made (record { edge = edge_in to after weight; why = why })
         by (inl (same, one)) =
             let weights : low ≡ weight = same_weight low weight (sym has ∙ (ap (λ (s : Slot). s.weight) one ∙ has_it)) in
             let edges : edge_in to slot low ≡ edge_in to after weight = ap (edge_in to slot) weights ∙ ap (λ (s : Slot). edge_in to s weight) one in
@@ -112,7 +112,7 @@ module _ (net : Plan) (table : Graph) (to : PointId) (plan : IsPlan net) (fits :
               place = from.place;
               slot = from.slot;
               weight = from.weight;
-              here = later_after.kept from.place from.slot (set_other making.slots place from.place (marked net table to plan fits sound slot) apart ∙ from.here) from.settled;
+              here = later_after.kept from.place from.slot (set_other making.slots place from.place (marked slot) apart ∙ from.here) from.settled;
               settled = from.settled;
               why = from.why;
               has = from.has;
@@ -122,9 +122,9 @@ module _ (net : Plan) (table : Graph) (to : PointId) (plan : IsPlan net) (fits :
             let (why, same) = improved_from slot low one new in
             record {
               place = place;
-              slot = marked net table to plan fits sound slot;
+              slot = marked slot;
               weight = low;
-              here = later_after.kept place (marked net table to plan fits sound slot) (set_same making.slots place slot (marked net table to plan fits sound slot) here) refl;
+              here = later_after.kept place (marked slot) (set_same making.slots place slot (marked slot) here) refl;
               settled = refl;
               why = why;
               has = has;
@@ -204,9 +204,9 @@ module _ (net : Plan) (table : Graph) (to : PointId) (plan : IsPlan net) (fits :
             only_place (row_keys table.shape to) (row_keys_rise table.shape to) other place (key_in to old) old_key (new_key ∙ ap Some (sym equal))
 
     later_stand : (other : ℕ) (after : Slot) (weight : ℤ) → slice_get later.slots other ≡ Some after → after.settled ≡ true → after.weight ≡ Some weight → HasEdge now (edge_in to after weight)
-    later_stand other after weight there settled has_it = by (was_marked net table to plan fits sound making.slots place slot low here is_open has other after (later_after.back other after there settled))
+    later_stand other after weight there settled has_it = by (was_marked making.slots place slot here other after (later_after.back other after there settled))
       where
-        by : ((other ≡ place) × (marked net table to plan fits sound slot ≡ after)) ⊎ ((other ≢ place) × (slice_get making.slots other ≡ Some after)) → HasEdge now (edge_in to after weight)
+        by : ((other ≡ place) × (marked slot ≡ after)) ⊎ ((other ≢ place) × (slice_get making.slots other ≡ Some after)) → HasEdge now (edge_in to after weight)
         by (inl (same, one)) =
             let weights : low ≡ weight = same_weight low weight (sym has ∙ (ap (λ (s : Slot). s.weight) one ∙ has_it)) in
             let edges : edge_in to slot low ≡ edge_in to after weight = ap (edge_in to slot) weights ∙ ap (λ (s : Slot). edge_in to s weight) one in
@@ -223,7 +223,7 @@ module _ (net : Plan) (table : Graph) (to : PointId) (plan : IsPlan net) (fits :
           place = from.place;
           slot = from.slot;
           weight = from.weight;
-          here = later_after.kept from.place from.slot (set_other making.slots place from.place (marked net table to plan fits sound slot) apart ∙ from.here) from.settled;
+          here = later_after.kept from.place from.slot (set_other making.slots place from.place (marked slot) apart ∙ from.here) from.settled;
           settled = from.settled;
           has = from.has;
           follows = from.follows;
@@ -235,9 +235,9 @@ module _ (net : Plan) (table : Graph) (to : PointId) (plan : IsPlan net) (fits :
           (in_row_there net table to plan fits sound one.edge derived).ends,
           record {
             place = place;
-            slot = marked net table to plan fits sound slot;
+            slot = marked slot;
             weight = low;
-            here = later_after.kept place (marked net table to plan fits sound slot) (set_same making.slots place slot (marked net table to plan fits sound slot) here) refl;
+            here = later_after.kept place (marked slot) (set_same making.slots place slot (marked slot) here) refl;
             settled = refl;
             has = has;
             follows = consequence_is net table (edge_in to slot low) one inside;
@@ -245,9 +245,9 @@ module _ (net : Plan) (table : Graph) (to : PointId) (plan : IsPlan net) (fits :
         )
 
     mark_ready : AllOpen net table to plan fits sound (IsReady later.slots) (mark net table to plan fits sound making.slots place slot low here is_open has)
-    mark_ready other after why weight there is_open_there some has_it = by (was_marked net table to plan fits sound making.slots place slot low here is_open has other after there)
+    mark_ready other after why weight there is_open_there some has_it = by (was_marked making.slots place slot here other after there)
       where
-        by : ((other ≡ place) × (marked net table to plan fits sound slot ≡ after)) ⊎ ((other ≢ place) × (slice_get making.slots other ≡ Some after)) → IsReady later.slots (record { edge = edge_in to after weight; why = why })
+        by : ((other ≡ place) × (marked slot ≡ after)) ⊎ ((other ≢ place) × (slice_get making.slots other ≡ Some after)) → IsReady later.slots (record { edge = edge_in to after weight; why = why })
         by (inl (same, one)) = let settled : true ≡ after.settled = ap (λ (s : Slot). s.settled) one in absurd cc
         by (inr (apart, at)) = ready_kept (record { edge = edge_in to after weight; why = why }) (is.ready other after why weight at is_open_there some has_it)
 

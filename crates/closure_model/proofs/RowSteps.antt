@@ -16,7 +16,7 @@ abbrev pub unsettled : List Slot → ℕ
 unsettled [] = 0
 unsettled (slot ∷ slots) = cond slot.settled 0 1 + unsettled slots
 
-unsettled-set : (slots : List Slot) (k : ℕ) (old new : Slot) → slice_get slots k ≡ Some old → old.settled ≡ false → new.settled ≡ true → unsettled (slice_set slots k new) + 1 ≡ unsettled slots
+pub unsettled-set : (slots : List Slot) (k : ℕ) (old new : Slot) → slice_get slots k ≡ Some old → old.settled ≡ false → new.settled ≡ true → unsettled (slice_set slots k new) + 1 ≡ unsettled slots
 unsettled-set [] k old new here was is = absurd cc
 unsettled-set (x ∷ xs) zero old new here was is =
     let same : x ≡ old = cc in
@@ -25,7 +25,7 @@ unsettled-set (x ∷ xs) zero old new here was is =
     omega arith
 unsettled-set (x ∷ xs) (suc k) old new here was is = let rest = unsettled-set xs k old new here was is in omega arith
 
-unsettled-relaxed : (slots : List Slot) (made : Made) → unsettled (relaxed slots made) ≡ unsettled slots
+pub unsettled-relaxed : (slots : List Slot) (made : Made) → unsettled (relaxed slots made) ≡ unsettled slots
 unsettled-relaxed [] made = refl
 unsettled-relaxed (x ∷ xs) made =
     let rest = unsettled-relaxed xs made in
@@ -33,7 +33,7 @@ unsettled-relaxed (x ∷ xs) made =
     let same : cond {A = ℕ} (relaxed_one made x).settled 0 1 ≡ cond {A = ℕ} x.settled 0 1 = ap (λ (b : Bool). cond {A = ℕ} b 0 1) here in
     omega arith
 
-unsettled-relaxes : (list : List Made) (slots : List Slot) → unsettled (fold relaxed slots list) ≡ unsettled slots
+pub unsettled-relaxes : (list : List Made) (slots : List Slot) → unsettled (fold relaxed slots list) ≡ unsettled slots
 unsettled-relaxes [] slots = refl
 unsettled-relaxes (made ∷ list) slots = unsettled-relaxes list (relaxed slots made) ∙ unsettled-relaxed slots made
 

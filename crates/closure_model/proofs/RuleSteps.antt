@@ -12,7 +12,7 @@ use Rattle.net_model.proofs.RuleLemmas.{NoCaseGives, UpperCaseGives, LowerCaseGi
 use Rattle.closure_model.proofs.Weights.{le_then_lt}
 
 -- ---- sums
-joined_not_less : (v u : ℤ) → u ≤ℤ (int_max v (pos 0) +ℤ u)
+pub joined_not_less : (v u : ℤ) → u ≤ℤ (int_max v (pos 0) +ℤ u)
 joined_not_less v u = grind (arith, ints, int_max_is)
 
 joined_decreases : (v u w : ℤ) → w ≤ℤ u → (int_max v (pos 0) +ℤ w) ≤ℤ (int_max v (pos 0) +ℤ u)

@@ -26,7 +26,7 @@ module _ (net : Plan) (table : Graph) (to : PointId) (plan : IsPlan net) (fits :
       where
         by : (b : Bool) → slot.settled ≡ b → slot.settled ≡ true
         by true is = is
-        by false is = let still_open : weight_at open_weight slots place ≡ Some weight = open_weight_at net table to plan fits sound slots place slot weight here is has in let none = all place in absurd cc
+        by false is = let still_open : weight_at open_weight slots place ≡ Some weight = open_weight_at slots place slot weight here is has in let none = all place in absurd cc
 
     -- what follows from a saturated premise is saturated
     met_by : (premise edge : Edge) → IsMet to slots premise → ((weight : ℤ) → weight ≤ℤ premise.weight → (given : Option Edge) × GivesLess given edge

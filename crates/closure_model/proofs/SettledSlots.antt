@@ -20,24 +20,38 @@ use Rattle.closure_model.proofs.Slots.{set_same, set_other, map_set_kept, key_in
 use Rattle.closure_model.proofs.RowDerivable.{consequence_in_row, consequence_not_less}
 use Rattle.closure_model.proofs.RowRelaxation.{CanBeRelaxed, IsAbove, IsAfter, IsAround, IsRow, relaxes_after, relaxes_saturate}
 
+abbrev pub marked : Slot → Slot
+marked slot = record slot { settled = true }
+
+pub open_is : (slot : Slot) (weight : ℤ) → open_weight slot ≡ Some weight → (slot.settled ≡ false) × (slot.weight ≡ Some weight)
+open_is slot weight is = by slot.settled refl
+  where
+    by : (b : Bool) → slot.settled ≡ b → (slot.settled ≡ false) × (slot.weight ≡ Some weight)
+    by true settled = let none : open_weight slot ≡ None = ap (λ (b : Bool). cond b None slot.weight) settled in absurd cc
+    by false settled = let same : open_weight slot ≡ slot.weight = ap (λ (b : Bool). cond b None slot.weight) settled in (settled, sym same ∙ is)
+
+open_from : (slot : Slot) (weight : ℤ) → slot.settled ≡ false → slot.weight ≡ Some weight → open_weight slot ≡ Some weight
+open_from slot weight settled has = ap (λ (b : Bool). cond b None slot.weight) settled ∙ has
+
+pub open_weight_at : (slots : List Slot) (place : ℕ) (slot : Slot) (weight : ℤ) → slice_get slots place ≡ Some slot → slot.settled ≡ false → slot.weight ≡ Some weight → weight_at open_weight slots place ≡ Some weight
+open_weight_at slots place slot weight here settled has = rw here (open_from slot weight settled has)
+
+-- the slots after one was marked: that one, and those that were there
+pub was_marked : (slots : List Slot) (place : ℕ) (slot : Slot) → slice_get slots place ≡ Some slot → (other : ℕ) (after : Slot) → slice_get (slice_set slots place (marked slot)) other ≡ Some after
+    → ((other ≡ place) × (marked slot ≡ after)) ⊎ ((other ≢ place) × (slice_get slots other ≡ Some after))
+was_marked slots place slot here other after there = by (other == place) refl
+  where
+    by : (b : Bool) → (other == place) ≡ b → ((other ≡ place) × (marked slot ≡ after)) ⊎ ((other ≢ place) × (slice_get slots other ≡ Some after))
+    by true is =
+        let same : other ≡ place = eqb-true other place is in
+        let at : slice_get (slice_set slots place (marked slot)) place ≡ Some (marked slot) = set_same slots place slot (marked slot) here in
+        let there' : slice_get (slice_set slots place (marked slot)) place ≡ Some after = subst (λ (k : ℕ). slice_get (slice_set slots place (marked slot)) k ≡ Some after) same there in
+        inl (same, same_Some (marked slot) after (sym at ∙ there'))
+    by false is =
+        let apart : other ≢ place = λ same. (let test : (other == place) ≡ true = rw same (grind (arith, nat_tests)) in absurd cc) in
+        inr (apart, sym (set_other slots place other (marked slot) apart) ∙ there)
+
 module _ (net : Plan) (table : Graph) (to : PointId) (plan : IsPlan net) (fits : IsFor net table) (sound : IsGraph table) where
-  -- ---- the settling of a slot
-  abbrev pub marked : Slot → Slot
-  marked slot = record slot { settled = true }
-
-  pub open_is : (slot : Slot) (weight : ℤ) → open_weight slot ≡ Some weight → (slot.settled ≡ false) × (slot.weight ≡ Some weight)
-  open_is slot weight is = by slot.settled refl
-    where
-      by : (b : Bool) → slot.settled ≡ b → (slot.settled ≡ false) × (slot.weight ≡ Some weight)
-      by true settled = let none : open_weight slot ≡ None = ap (λ (b : Bool). cond b None slot.weight) settled in absurd cc
-      by false settled = let same : open_weight slot ≡ slot.weight = ap (λ (b : Bool). cond b None slot.weight) settled in (settled, sym same ∙ is)
-
-  open_from : (slot : Slot) (weight : ℤ) → slot.settled ≡ false → slot.weight ≡ Some weight → open_weight slot ≡ Some weight
-  open_from slot weight settled has = ap (λ (b : Bool). cond b None slot.weight) settled ∙ has
-
-  pub open_weight_at : (slots : List Slot) (place : ℕ) (slot : Slot) (weight : ℤ) → slice_get slots place ≡ Some slot → slot.settled ≡ false → slot.weight ≡ Some weight → weight_at open_weight slots place ≡ Some weight
-  open_weight_at slots place slot weight here settled has = rw here (open_from slot weight settled has)
-
   -- what holds between two settlings
   pub record IsPartly (slots : List Slot) : Type 0 where
     pub row : IsRow net table to plan fits sound slots
@@ -50,20 +64,6 @@ module _ (net : Plan) (table : Graph) (to : PointId) (plan : IsPlan net) (fits :
   module _ (slots : List Slot) (place : ℕ) (slot : Slot) (low : ℤ) (here : slice_get slots place ≡ Some slot) (is_open : slot.settled ≡ false) (has : slot.weight ≡ Some low) where
     abbrev pub mark : List Slot
     mark = slice_set slots place (marked slot)
-
-    -- a slot after the marking is the one that was marked, or was there
-    pub was_marked : (other : ℕ) (after : Slot) → slice_get mark other ≡ Some after → ((other ≡ place) × (marked slot ≡ after)) ⊎ ((other ≢ place) × (slice_get slots other ≡ Some after))
-    was_marked other after there = by (other == place) refl
-      where
-        by : (b : Bool) → (other == place) ≡ b → ((other ≡ place) × (marked slot ≡ after)) ⊎ ((other ≢ place) × (slice_get slots other ≡ Some after))
-        by true is =
-            let same : other ≡ place = eqb-true other place is in
-            let at : slice_get mark place ≡ Some (marked slot) = set_same slots place slot (marked slot) here in
-            let there' : slice_get mark place ≡ Some after = subst (λ (k : ℕ). slice_get mark k ≡ Some after) same there in
-            inl (same, same_Some (marked slot) after (sym at ∙ there'))
-        by false is =
-            let apart : other ≢ place = λ same. (let test : (other == place) ≡ true = rw same (grind (arith, nat_tests)) in absurd cc) in
-            inr (apart, sym (set_other slots place other (marked slot) apart) ∙ there)
 
     met_marked : (edge : Edge) → IsMet to slots edge → IsMet to mark edge
     met_marked edge met = by (met.place == place) refl
@@ -95,14 +95,14 @@ module _ (net : Plan) (table : Graph) (to : PointId) (plan : IsPlan net) (fits :
             }
 
     mark_derivable : IsRow net table to plan fits sound slots → (other : ℕ) (after : Slot) (weight : ℤ) → slice_get mark other ≡ Some after → after.weight ≡ Some weight → IsInRow net table to (edge_in to after weight)
-    mark_derivable row other after weight there is = by (was_marked other after there)
+    mark_derivable row other after weight there is = by (was_marked slots place slot here other after there)
       where
         by : ((other ≡ place) × (marked slot ≡ after)) ⊎ ((other ≢ place) × (slice_get slots other ≡ Some after)) → IsInRow net table to (edge_in to after weight)
         by (inl (same, one)) = subst (λ (s : Slot). IsInRow net table to (edge_in to s weight)) one (row.derivable place slot weight here (ap (λ (s : Slot). s.weight) one ∙ is))
         by (inr (apart, at)) = row.derivable other after weight at is
 
     mark_unimproved : IsRow net table to plan fits sound slots → (other : ℕ) (after : Slot) → slice_get mark other ≡ Some after → after.why ≡ None → after.weight ≡ weight_of table (key_in to after)
-    mark_unimproved row other after there none = by (was_marked other after there)
+    mark_unimproved row other after there none = by (was_marked slots place slot here other after there)
       where
         by : ((other ≡ place) × (marked slot ≡ after)) ⊎ ((other ≢ place) × (slice_get slots other ≡ Some after)) → after.weight ≡ weight_of table (key_in to after)
         by (inl (same, one)) = ap (λ (s : Slot). s.weight) (sym one) ∙ row.unimproved place slot here (ap (λ (s : Slot). s.why) one ∙ none) ∙ ap (λ (s : Slot). weight_of table (key_in to s)) one
@@ -110,7 +110,7 @@ module _ (net : Plan) (table : Graph) (to : PointId) (plan : IsPlan net) (fits :
 
     mark_improved : IsRow net table to plan fits sound slots → (other : ℕ) (after : Slot) (why : Why) → slice_get mark other ≡ Some after → after.why ≡ Some why
         → (weight : ℤ) × (after.weight ≡ Some weight) × IsAbove net table to plan fits sound (key_in to after) weight
-    mark_improved row other after why there some = by (was_marked other after there)
+    mark_improved row other after why there some = by (was_marked slots place slot here other after there)
       where
         by : ((other ≡ place) × (marked slot ≡ after)) ⊎ ((other ≢ place) × (slice_get slots other ≡ Some after)) → (weight : ℤ) × (after.weight ≡ Some weight) × IsAbove net table to plan fits sound (key_in to after) weight
         by (inl (same, one)) =
@@ -131,21 +131,21 @@ module _ (net : Plan) (table : Graph) (to : PointId) (plan : IsPlan net) (fits :
     mark_around partly next = record { has = has_weight; below = below; from_there = from_there }
       where
         has_weight : (other : ℕ) (after : Slot) → slice_get mark other ≡ Some after → after.settled ≡ true → (weight : ℤ) × (after.weight ≡ Some weight)
-        has_weight other after there is = by (was_marked other after there)
+        has_weight other after there is = by (was_marked slots place slot here other after there)
           where
             by : ((other ≡ place) × (marked slot ≡ after)) ⊎ ((other ≢ place) × (slice_get slots other ≡ Some after)) → (weight : ℤ) × (after.weight ≡ Some weight)
             by (inl (same, one)) = (low, ap (λ (s : Slot). s.weight) (sym one) ∙ has)
             by (inr (apart, at)) = partly.has other after at is
 
         below : (other : ℕ) (after : Slot) (weight : ℤ) → slice_get mark other ≡ Some after → after.settled ≡ true → after.weight ≡ Some weight → weight ≤ℤ low
-        below other after weight there is has_it = by (was_marked other after there)
+        below other after weight there is has_it = by (was_marked slots place slot here other after there)
           where
             by : ((other ≡ place) × (marked slot ≡ after)) ⊎ ((other ≢ place) × (slice_get slots other ≡ Some after)) → weight ≤ℤ low
             by (inl (same, one)) = le_of_same weight low (same_weight weight low (sym has_it ∙ (ap (λ (s : Slot). s.weight) (sym one) ∙ has)))
             by (inr (apart, at)) = partly.ordered other place after slot weight low at here is has_it is_open has
 
         from_there : (other : ℕ) (after : Slot) (weight : ℤ) → slice_get mark other ≡ Some after → after.settled ≡ false → after.weight ≡ Some weight → low ≤ℤ weight
-        from_there other after weight there is has_it = by (was_marked other after there)
+        from_there other after weight there is has_it = by (was_marked slots place slot here other after there)
           where
             by : ((other ≡ place) × (marked slot ≡ after)) ⊎ ((other ≢ place) × (slice_get slots other ≡ Some after)) → low ≤ℤ weight
             by (inl (same, one)) = let settled : true ≡ after.settled = ap (λ (s : Slot). s.settled) one in absurd cc
@@ -166,7 +166,7 @@ module _ (net : Plan) (table : Graph) (to : PointId) (plan : IsPlan net) (fits :
     settling_closed : IsPartly slots → (next : IsNextSlot slots (place, low)) → (other : ℕ) (after : Slot) (weight : ℤ) → slice_get (slots_after net table to slots place slot low) other ≡ Some after → after.settled ≡ true
         → after.weight ≡ Some weight
         → (made : Made) → Contains (consequences net table (edge_in to after weight)) made → IsMet to (slots_after net table to slots place slot low) made.edge
-    settling_closed partly next other after weight there is has_it made inside = by (was_marked other after ((settling_after partly next).back other after there is))
+    settling_closed partly next other after weight there is has_it made inside = by (was_marked slots place slot here other after ((settling_after partly next).back other after there is))
       where
         by : ((other ≡ place) × (marked slot ≡ after)) ⊎ ((other ≢ place) × (slice_get slots other ≡ Some after)) → IsMet to (slots_after net table to slots place slot low) made.edge
         by (inl (same, one)) =

@@ -1,9 +1,9 @@
 -- What relaxing an edge does to the slots of a row: a slot takes it or stays, and whatever was saturated in the row stays so.
-use Rattle.std.proofs.Common.{◌≡◌, ◌≢◌, ℕ, zero, suc, ℤ, ◌≤ℤ◌, ◌<ℤ◌, ◌==◌, ◌&&◌, Bool, true, false, cond, List, [], ◌∷◌, map, fold, Option, Some, None, refl, ap, sym, subst, ◌∙◌, arith}
+use Rattle.std.proofs.Common.{◌≡◌, ◌≢◌, ℕ, zero, suc, ℤ, ◌≤ℤ◌, ◌<ℤ◌, ◌==◌, Bool, true, false, cond, List, [], ◌∷◌, map, fold, Option, Some, None, refl, ap, sym, subst, ◌∙◌, arith}
 use Rattle.std.specs.Prelude.{slice_get, slice_set, int_lt}
 use Rattle.std.specs.Option.{option_map, option_map_or}
 use Rattle.std.specs.List.{Contains}
-use Rattle.std.proofs.lemmas.Bool.{eqb-true}
+use Rattle.std.proofs.lemmas.Bool.{eqb-true, and_parts}
 use Rattle.std.proofs.lemmas.Bool.Decides.{nat_tests}
 use Rattle.std.proofs.lemmas.Option.{slice_get-map, same_Some}
 use Rattle.net_model.specs.declared.ids.LinkId.{LinkId}
@@ -57,13 +57,9 @@ pub same_label_itself : (one : Option LinkId) → same_label one one ≡ true
 same_label_itself None = refl
 same_label_itself (Some label) = grind (arith, nat_tests)
 
-pub both : (a b : Bool) → (a && b) ≡ true → (a ≡ true) × (b ≡ true)
-both true b holds = (refl, holds)
-both false b holds = absurd cc
-
 pub slot_of_key : (to : PointId) (edge : Edge) (slot : Slot) → edge.to ≡ to → is_slot_of edge slot ≡ true → key_in to slot ≡ key_of edge
 slot_of_key to edge slot ends is =
-    let (froms, labels) = both (edge.from.0 == slot.from.0) (same_label edge.label slot.label) is in
+    let (froms, labels) = and_parts (edge.from.0 == slot.from.0) (same_label edge.label slot.label) is in
     let from : slot.from ≡ edge.from = ap (λ (k : ℕ). record { 0 = k }) (sym (eqb-true edge.from.0 slot.from.0 froms)) in
     let label : slot.label ≡ edge.label = sym (same_label_is edge.label slot.label labels) in
     λ i. record { to = sym ends i; from = from i; label = label i }

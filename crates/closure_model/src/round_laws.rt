@@ -3,7 +3,6 @@
 ghost use Rattle.closure_model.specs.ReferenceRow.{FirstIsNext, RowsAreLeast, RowsStayWithin};
 ghost use Rattle.closure_model.specs.ReferenceRounds.{RoundsEndInOneWay, RoundsKeepStanding};
 ghost use Rattle.closure_model.specs.ReferenceRounds.{RoundsStand, RoundsThatCloseGiveTheClosure};
-ghost use Rattle.closure_model.specs.PrunedRows.{PrunedRowsAreReferenceRows};
 ghost use Rattle.closure_model.specs.DeltaEdges.{RowsAreSaturatedAfterARound, UnimprovedWereThere};
 ghost use Rattle.closure_model.specs.DeltaEdges.{UnstaleRowsMakeNothing};
 ghost use Rattle.closure_model.specs.RoundLaws.{ClosuresAreOfRounds, RoundsAlwaysEnd, RoundsAreFew};
@@ -47,13 +46,6 @@ pub fn law_rounds_that_close()
 /// Rounds end in one way.
 pub fn law_rounds_end_in_one_way()
     ensures { RoundsEndInOneWay }
-{}
-
-/// A pruned row makes what the reference row makes: the same edges in the same order, by the same
-/// rules from the same premises. In a pruned row only keys that can still change the row are
-/// settled, and only unsaturated edges need be relaxed.
-pub fn law_pruned_rows_are_reference_rows()
-    ensures { PrunedRowsAreReferenceRows }
 {}
 
 /// An edge that did not improve in a round was there before, so it is no delta edge.

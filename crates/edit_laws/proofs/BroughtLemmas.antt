@@ -12,8 +12,8 @@ use Rattle.net_model.specs.declared.ids.PointId.{PointId}
 use Rattle.net_model.specs.declared.part.Bound.{Bound}
 use Rattle.net_model.specs.declared.part.Link.{Link}
 use Rattle.net_model.proofs.AcceptedEdits.{Makes}
-use Rattle.closure_model.proofs.ReachedTables.{at_place}
 use Rattle.closure_model.proofs.Nodes.{listed_at}
+use Rattle.closure_model.proofs.BaseLemmas.{slice_get-contained}
 use Rattle.net_model.specs.NetworkParts.{point_name}
 use Rattle.edit_laws.specs.EditNumbers.{point_in, bound_in, link_in, renumbering, is_new_bound, is_new_link}
 use Rattle.edit_laws.specs.EditEffects.{unnumbered_link, HasEditedParts, AddsBound, SetsBound, AddsLink, SetsLink, TakesBound, TakesLink, BringsBound, BringsLink, EditsBringBounds, EditsBringLinks}
@@ -55,7 +55,7 @@ module _ (old : Plan) (edit : Edit) (new : Plan) (before : IsPlan old) (after : 
                 absurd (dropped_bound_gone old before stood.was.name has.made id.0 again (subst (λ (e : Edit). Makes old e has.made) drops (makes old edit new before after has)) at (ap (λ (b : Bound). b.name) parts ∙ sym stood.named))
             from (inr (inl sets)) = inr (inl (subst (SetsBound edit) stood.named sets))
             from (inr (inr (other, listed, name, apart))) =
-                let (k, at) = at_place new.bounds other listed in
+                let (k, at) = slice_get-contained new.bounds other listed in
                 let places : Some id ≡ Some (record { 0 = k }) = sym (bound_placed new after bound.name id bound here refl) ∙ bound_placed new after bound.name (record { 0 = k }) other at (name ∙ stood.named) in
                 let one : id ≡ record { 0 = k } = cc in
                 let both : Some bound ≡ Some other = sym here ∙ (ap (λ (p : BoundId). slice_get new.bounds p.0) one ∙ at) in
@@ -74,7 +74,7 @@ module _ (old : Plan) (edit : Edit) (new : Plan) (before : IsPlan old) (after : 
             new_by (record { 0 = stood.place }) stood.was stood.there stood.named
             ∙ ap is_none (bound_taken old edit new before after has (record { 0 = stood.place }) stood.was stood.there (inr (inl (subst (SetsBound edit) (sym stood.named) sets))))
     brought (inr (inr (other, listed, name, apart))) =
-        let (k, at) = at_place old.bounds other listed in
+        let (k, at) = slice_get-contained old.bounds other listed in
         new_by (record { 0 = k }) other at name
         ∙ ap is_none (bound_taken old edit new before after has (record { 0 = k }) other at (inr (inr (bound, listed_at new.bounds id.0 bound here, sym name, λ most. apart (sym most)))))
 
@@ -134,7 +134,7 @@ module _ (old : Plan) (edit : Edit) (new : Plan) (before : IsPlan old) (after : 
                 absurd (dropped_link_gone old before (point_name old.points stood.was.to) has.made id.0 again (subst (λ (e : Edit). Makes old e has.made) drops (makes old edit new before after has)) at to)
             from (inr (inl sets)) = inr (inl (subst (SetsLink edit) (old_name stood) sets))
             from (inr (inr (other, listed, its, apart))) =
-                let (k, at) = at_place new.links other listed in
+                let (k, at) = slice_get-contained new.links other listed in
                 let sound = link_sound new after (record { 0 = k }) other at in
                 let other_named : slice_get new.points other.to.0 ≡ Some name = slice_get-get_or new.points other.to.0 [] sound.to_point ∙ ap (λ (n : List ℕ). Some n) (its ∙ old_name stood) in
                 let points : Some other.to ≡ Some link.to = sym (at_named new after name other.to other_named) ∙ at_named new after name link.to named in
@@ -164,7 +164,7 @@ module _ (old : Plan) (edit : Edit) (new : Plan) (before : IsPlan old) (after : 
             link_new_by stood.place stood.was stood.there stood.ends
             ∙ ap is_none (link_taken old edit new before after has stood.place stood.was stood.there (inr (inl (subst (SetsLink edit) (sym (old_name stood)) sets))))
     link_brought (inr (inr (other, listed, its, apart))) =
-        let (k, at) = at_place old.links other listed in
+        let (k, at) = slice_get-contained old.links other listed in
         let sound = link_sound old before (record { 0 = k }) other at in
         let ends : slice_get old.points other.to.0 ≡ Some name = slice_get-get_or old.points other.to.0 [] sound.to_point ∙ ap (λ (n : List ℕ). Some n) its in
         link_new_by (record { 0 = k }) other at ends

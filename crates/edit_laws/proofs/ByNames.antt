@@ -4,7 +4,7 @@ use Rattle.std.specs.Prelude.{slice_get, map, if◌then◌else◌}
 use Rattle.std.specs.Option.{option_map, option_and_then, option_map_or}
 use Rattle.std.specs.Ordering.{int_eq}
 use Rattle.std.specs.Str.{bytes_eq}
-use Rattle.std.proofs.lemmas.Bool.{eq-eqb, eqb-true}
+use Rattle.std.proofs.lemmas.Bool.{eq-eqb, eqb-true, and_parts}
 use Rattle.std.proofs.lemmas.Bool.Decides.{Decides-int_eq}
 use Rattle.std.proofs.lemmas.Map.Made.{AllPairs-from_IsDistinct}
 use Rattle.std.proofs.lemmas.Option.{slice_get-map}
@@ -85,10 +85,6 @@ module _ (net : Plan) (plan : IsPlan net) where
       here (eq-eqb link.to.0 point.0 (ap (λ (p : PointId). p.0) ends)))
 
 -- ---- tests
-both : (a b : Bool) → (a && b) ≡ true → (a ≡ true) × (b ≡ true)
-both true b is = (refl, is)
-both false b is = absurd cc
-
 point_is : (o : Option PointId) (point : PointId) → is_point o point ≡ true → o ≡ Some point
 point_is None point is = absurd cc
 point_is (Some p) point is = ap (λ (k : ℕ). Some (record { 0 = k })) (eqb-true p.0 point.0 is)
@@ -118,8 +114,8 @@ module _ (old : Plan) (edit : Edit) (new : Plan) where
       let (found, named, rest_is) = two_steps (same_place old new bound) (bound_named new bound.name) place rest in
       let (other, there, test) = two_steps (λ (b : Bound). if is_same_bound old new bound b then Some found else None) (slice_get new.bounds found.0) place rest_is in
       let (same, one) = tested (is_same_bound old new bound other) found place test in
-      let (from, more) = both (is_point (point_in old new bound.from) other.from) (is_point (point_in old new bound.to) other.to && int_eq bound.most other.most) same in
-      let (to, most) = both (is_point (point_in old new bound.to) other.to) (int_eq bound.most other.most) more in
+      let (from, more) = and_parts (is_point (point_in old new bound.from) other.from) (is_point (point_in old new bound.to) other.to && int_eq bound.most other.most) same in
+      let (to, most) = and_parts (is_point (point_in old new bound.to) other.to) (int_eq bound.most other.most) more in
       record {
         other = other;
         there = ap (λ (id : BoundId). slice_get new.bounds id.0) (sym one) ∙ there;
@@ -147,8 +143,8 @@ module _ (old : Plan) (edit : Edit) (new : Plan) where
       let (found, ends, rest_is) = two_steps (same_link_place old new link) (activation new point) place further in
       let (other, there, test) = two_steps (λ (l : Link). if is_same_link old new link l then Some found else None) (slice_get new.links found.0) place rest_is in
       let (same, one) = tested (is_same_link old new link other) found place test in
-      let (from, more) = both (is_point (point_in old new link.from) other.from) (int_eq link.low other.low && int_eq link.high other.high) same in
-      let (low, high) = both (int_eq link.low other.low) (int_eq link.high other.high) more in
+      let (from, more) = and_parts (is_point (point_in old new link.from) other.from) (int_eq link.low other.low && int_eq link.high other.high) same in
+      let (low, high) = and_parts (int_eq link.low other.low) (int_eq link.high other.high) more in
       record {
         other = other;
         there = ap (λ (id : LinkId). slice_get new.links id.0) (sym one) ∙ there;

@@ -15,8 +15,8 @@ use Rattle.net_model.specs.declared.ids.PointId.{PointId}
 use Rattle.net_model.specs.declared.part.Bound.{Bound}
 use Rattle.net_model.specs.declared.part.Link.{Link}
 use Rattle.net_model.proofs.AcceptedEdits.{Makes}
-use Rattle.closure_model.proofs.Nodes.{push_cases, mapped}
-use Rattle.closure_model.proofs.Slots.{set_same, set_other}
+use Rattle.closure_model.proofs.Nodes.{push_cases}
+use Rattle.closure_model.proofs.Slots.{set_same, set_other, some_of_map}
 use Rattle.net_model.specs.NetworkParts.{point_name}
 use Rattle.net_model.proofs.RuleLemmas.{two_steps}
 use Rattle.edit_laws.specs.EditEffects.{AddsBound, AddsLink}
@@ -57,7 +57,7 @@ module _ (old : Plan) (plan : IsPlan old) where
   pub bound_comes : (edit : Edit) (made : Plan) (k : ℕ) (bound : Bound) → Makes old edit made → slice_get made.bounds k ≡ Some bound → AddsBound edit bound.name ⊎ BoundStood old bound.name
   bound_comes (edits.AddPoint name) made k bound (not_taken, is) here = inr (same_stood k bound (ap (λ (n : Plan). slice_get n.bounds k) (sym is) ∙ here))
   bound_comes (edits.DropPoint name) made k bound (point, named, unused, is) here =
-      let (was, there, closed) = mapped (λ (b : Bound). record b { from = closed_up point b.from; to = closed_up point b.to }) (slice_get old.bounds k) bound
+      let (was, there, closed) = some_of_map (λ (b : Bound). record b { from = closed_up point b.from; to = closed_up point b.to }) (slice_get old.bounds k) bound
       (sym (slice_get-map (λ (b : Bound). record b { from = closed_up point b.from; to = closed_up point b.to }) old.bounds k) ∙ (ap (λ (n : Plan). slice_get n.bounds k) (sym is) ∙ here)) in
       inr (record { place = k; was = was; there = there; named = ap (λ (b : Bound). b.name) closed })
   bound_comes (edits.AddBound name from to most) made k bound (added, named, not_taken, is) here = by (push_cases old.bounds added k bound (ap (λ (n : Plan). slice_get n.bounds k) (sym is) ∙ here))
@@ -108,7 +108,7 @@ module _ (old : Plan) (plan : IsPlan old) where
         ends = ap (λ (n : Plan). slice_get n.points link.to.0) is ∙ point_more old name link.to (link_sound old plan (record { 0 = k }) link stood).to_point;
       })
   link_comes (edits.DropPoint name) made k link (point, named, unused, is) here =
-      let (was, there, closed) = mapped (λ (l : Link). record l { from = closed_up point l.from; to = closed_up point l.to }) (slice_get old.links k) link
+      let (was, there, closed) = some_of_map (λ (l : Link). record l { from = closed_up point l.from; to = closed_up point l.to }) (slice_get old.links k) link
       (sym (slice_get-map (λ (l : Link). record l { from = closed_up point l.from; to = closed_up point l.to }) old.links k) ∙ (ap (λ (n : Plan). slice_get n.links k) (sym is) ∙ here)) in
       let free = unused.links k was there in
       inr (record {

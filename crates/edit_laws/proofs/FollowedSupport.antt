@@ -8,11 +8,11 @@ use Rattle.net_model.specs.Network.{Plan}
 use Rattle.closure_model.specs.Derivations.{item_of, premises_of, IsGiven, IsDerivationList, RestsOn, base_nodes, bound_node, link_node, Support, StandsOn}
 use Rattle.closure_model.specs.declared.derivation.Node.{Node}
 use Rattle.closure_model.specs.declared.derivation.NodeId.{NodeId}
-use Rattle.closure_model.proofs.ReachedTables.{at_place}
 use Rattle.closure_model.proofs.Lists.{Contains-none, Contains-map_from}
 use Rattle.closure_model.proofs.DerivedNodes.{rests_cases}
 use Rattle.closure_model.proofs.Nodes.{listed_at}
 use Rattle.closure_model.proofs.SupportLemmas.{base_given, list_pushed}
+use Rattle.closure_model.proofs.BaseLemmas.{slice_get-contained}
 use Rattle.edit_laws.specs.KeptLists.{Renumbering, IsRenumbering, RestsOnTaken, moved_rule, moved_node, place_at, followed, IsKeptOrTaken, IsMovedBase, AreNewBase, followed_support}
 use Rattle.edit_laws.specs.KeptListLaws.{FollowedStands}
 use Rattle.edit_laws.proofs.KeptNodes.{made_of}
@@ -52,7 +52,7 @@ module _ (old new : Plan) (moves : Renumbering) (news : List Node) (support : Su
   moved_base_kept node (what, based, moved) = by (place_at (followed moves support.nodes).places (record { 0 = at.0 })) (all.kept.each (record { 0 = at.0 }) what inside at.1)
     where
       at : (k : ℕ) × (slice_get support.nodes k ≡ Some what)
-      at = at_place support.nodes what (All-contains (Contains support.nodes) (base_nodes old) what stands.based based)
+      at = slice_get-contained support.nodes what (All-contains (Contains support.nodes) (base_nodes old) what stands.based based)
 
       inside : at.0 < length support.nodes
       inside = slice_get_within support.nodes at.0 what at.1

@@ -16,8 +16,9 @@ use Rattle.net_model.specs.declared.ids.PointId.{PointId}
 use Rattle.net_model.specs.declared.part.Bound.{Bound}
 use Rattle.net_model.specs.declared.part.Link.{Link}
 use Rattle.net_model.proofs.AcceptedEdits.{Makes, accepted_makes}
-use Rattle.closure_model.proofs.ReachedTables.{at_place}
-use Rattle.closure_model.proofs.Nodes.{mapped, listed_at}
+use Rattle.closure_model.proofs.Nodes.{listed_at}
+use Rattle.closure_model.proofs.BaseLemmas.{slice_get-contained}
+use Rattle.closure_model.proofs.Slots.{some_of_map}
 use Rattle.net_model.specs.NetworkParts.{point_name}
 use Rattle.net_model.proofs.RuleLemmas.{two_steps}
 use Rattle.edit_laws.specs.EditNumbers.{sets_bound, sets_link, point_in, is_point, is_same_bound, is_same_link, same_place, bound_in, same_link_place, link_in, renumbering}
@@ -29,7 +30,7 @@ use Rattle.edit_laws.proofs.LastingParts.{IsNamesake, BoundStands, LinkStands, b
 -- ---- networks of the same parts
 -- an item of a list, in a list of the same images
 imaged : {X Y : Type 0} (f : X → Y) (xs ys : List X) → map f ys ≡ map f xs → (k : ℕ) (x : X) → slice_get xs k ≡ Some x → (y : X) × (slice_get ys k ≡ Some y) × (f y ≡ f x)
-imaged f xs ys same k x here = mapped f (slice_get ys k) (f x) (sym (slice_get-map f ys k) ∙ (ap (λ zs. slice_get zs k) same ∙ (slice_get-map f xs k ∙ ap (option_map f) here)))
+imaged f xs ys same k x here = some_of_map f (slice_get ys k) (f x) (sym (slice_get-map f ys k) ∙ (ap (λ zs. slice_get zs k) same ∙ (slice_get-map f xs k ∙ ap (option_map f) here)))
 
 module _ (net new : Plan) (parts : HasPartsOf net new) where
   pub bound_there : (k : ℕ) (bound : Bound) → slice_get net.bounds k ≡ Some bound → (other : Bound) × (slice_get new.bounds k ≡ Some other) × (unnumbered other ≡ unnumbered bound)
@@ -183,7 +184,7 @@ module _ (old : Plan) (edit : Edit) (new : Plan) (before : IsPlan old) (after : 
             ap (λ (b : Bool). if b then None else option_and_then (same_place old new bound) (bound_named new bound.name)) (sets_so edit bound.name sets) in
             let both : Some place ≡ None = sym held ∙ none in absurd cc
         never place same held (inr (inr (other, listed, name, apart))) =
-            let (k, at) = at_place new.bounds other listed in
+            let (k, at) = slice_get-contained new.bounds other listed in
             let places : Some place ≡ Some (record { 0 = k }) = sym same.named ∙ bound_placed new after bound.name (record { 0 = k }) other at name in
             let one : place ≡ record { 0 = k } = cc in
             let bounds : Some same.other ≡ Some other = sym same.there ∙ (ap (λ (p : BoundId). slice_get new.bounds p.0) one ∙ at) in
@@ -259,7 +260,7 @@ module _ (old : Plan) (edit : Edit) (new : Plan) (before : IsPlan old) (after : 
             ap (λ (b : Bool). if b then None else option_and_then (λ (p : PointId). option_and_then (same_link_place old new link) (activation new p)) (point_in old new link.to)) (sets_link_so edit (point_name old.points link.to) sets) in
             let both : Some place ≡ None = sym held ∙ none in absurd cc
         never place same held (inr (inr (other, listed, name, apart))) =
-            let (k, at) = at_place new.links other listed in
+            let (k, at) = slice_get-contained new.links other listed in
             let sound = link_sound new after (record { 0 = k }) other at in
             let named : slice_get new.points other.to.0 ≡ Some (point_name old.points link.to) = slice_get-get_or new.points other.to.0 [] sound.to_point ∙ ap (λ (n : List ℕ). Some n) name in
             let points : Some other.to ≡ Some same.point = sym (at_named new after (point_name old.points link.to) other.to named) ∙ at_named new after (point_name old.points link.to) same.point (same_name place same) in

@@ -26,6 +26,7 @@ use Rattle.closure_model.proofs.Lists.{Contains-map, Contains-map_from, Contains
 use Rattle.closure_model.proofs.OrderLemmas.{among_from, from_among}
 use Rattle.closure_model.proofs.RoundClosure.{standing_fits, standing_sound}
 use Rattle.closure_model.proofs.RoundsLaw.{round_stands_after}
+use Rattle.closure_model.proofs.BaseLemmas.{all_contained}
 use Rattle.back_propagation.specs.declared.full_rows.NewRow.{NewRow}
 use Rattle.loop_finder.specs.KeptOrders.{GoesAlong}
 use Rattle.parallel_rounds.specs.StoreUpdate.{made_in}
@@ -34,7 +35,7 @@ use Rattle.parallel_rounds.specs.Targets.{AreRisingPoints, AreRowsOfRound}
 use Rattle.parallel_rounds.specs.LastRounds.{IsLastRound, AreDeltaIn, AreListed, ordinary_made, changed_in, was_low}
 use Rattle.parallel_rounds.specs.declared.last_round.LastRound.{LastRound}
 use Rattle.parallel_rounds.proofs.DeltaSteps.{delta_after}
-use Rattle.parallel_rounds.proofs.StaleSteps.{All-from_each, map_pairs, rows_make_round}
+use Rattle.parallel_rounds.proofs.StaleSteps.{map_pairs, rows_make_round}
 
 module _ (net : Plan) (table : Graph) (rows : List NewRow) (are : AreRowsOfRound net table rows) where
   pub rows_rise : AllPairs (λ (one other : NewRow). one.target.0 < other.target.0) rows
@@ -50,7 +51,7 @@ module _ (net : Plan) (table : Graph) (rows : List NewRow) (are : AreRowsOfRound
       subst (λ (r : NewRow). r.target.0 < table.shape.points) is (All-contains (λ (p : PointId). p.0 < table.shape.points) are.targets point are.points there)
 
   pub rows_inside : All (λ (row : NewRow). row.target.0 < table.shape.points) rows
-  rows_inside = All-from_each (λ (row : NewRow). row.target.0 < table.shape.points) rows target_inside
+  rows_inside = all_contained (λ (row : NewRow). row.target.0 < table.shape.points) rows target_inside
 
   changed_rise : AreRisingPoints (changed_in rows)
   changed_rise =
@@ -58,7 +59,7 @@ module _ (net : Plan) (table : Graph) (rows : List NewRow) (are : AreRowsOfRound
       (AllPairs-filter (λ (one other : NewRow). one.target.0 < other.target.0) (λ (row : NewRow). not (length row.made == 0)) rows rows_rise)
 
   changed_inside : All (λ (point : PointId). point.0 < table.shape.points) (changed_in rows)
-  changed_inside = All-from_each (λ (point : PointId). point.0 < table.shape.points) (changed_in rows)
+  changed_inside = all_contained (λ (point : PointId). point.0 < table.shape.points) (changed_in rows)
       (λ point there. by point (Contains-map_from (λ (row : NewRow). row.target) (filter (λ (row : NewRow). not (length row.made == 0)) rows) point there))
     where
       by : (point : PointId) → (row : NewRow) × Contains (filter (λ (row : NewRow). not (length row.made == 0)) rows) row × (row.target ≡ point) → point.0 < table.shape.points

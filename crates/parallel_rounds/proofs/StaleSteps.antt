@@ -4,11 +4,11 @@ use Rattle.std.specs.Prelude.{filter, int_lt}
 use Rattle.std.specs.List.{All, AllPairs, Contains, flat_map, list_any, range_with_len, slice_index_or}
 use Rattle.std.proofs.Math.Bool.{or-true}
 use Rattle.std.proofs.Math.ListN.{get_or-eq_default}
-use Rattle.std.proofs.lemmas.Bool.{eq-eqb, eqb-true, false≢true}
+use Rattle.std.proofs.lemmas.Bool.{eq-eqb, eqb-true, false≢true, and_parts}
 use Rattle.std.proofs.lemmas.Bool.Decides.{nat_tests}
 use Rattle.std.proofs.lemmas.List.Elements.{All-get_or, All-contains, All-filter, filter-append}
 use Rattle.std.proofs.lemmas.List.Folds.{flat_map-map, list_any-append}
-use Rattle.std.proofs.lemmas.List.{get_or_default, get_or-set_same, get_or-set_other, length-set, take_more}
+use Rattle.std.proofs.lemmas.List.{get_or-set_same, get_or-set_other, length-set, take_more}
 use Rattle.std.proofs.lemmas.List.FromFn.{map-range_with_len_more}
 use Rattle.std.proofs.lemmas.List.Kept.{AllPairs-filter, AllPairs-cons}
 use Rattle.net_model.specs.Network.{Plan, IsPlan, IsPoint}
@@ -26,7 +26,8 @@ use Rattle.closure_model.proofs.DeltaLemmas.{law_unstale_rows_make_nothing}
 use Rattle.closure_model.proofs.Lists.{Contains-head, Contains-tail, Contains-cases, Contains-none, Contains-map_from, Contains-filter_from, Contains-filter, Contains-filter_passes, any_is, any_from}
 use Rattle.closure_model.proofs.TableLemmas.{listed_edge, edge_listed}
 use Rattle.closure_model.proofs.Weights.{lt_is, lt_true}
-use Rattle.closure_model.proofs.OrderLemmas.{among_from, from_among, both_true}
+use Rattle.closure_model.proofs.OrderLemmas.{among_from, from_among}
+use Rattle.closure_model.proofs.BaseLemmas.{all_contained}
 use Rattle.back_propagation.specs.declared.full_rows.NewRow.{NewRow}
 use Rattle.loop_finder.specs.Marks.{AreMarks}
 use Rattle.parallel_rounds.specs.StoreUpdate.{made_in}
@@ -41,14 +42,11 @@ pub any_mapped : {X Y : Type 0} (p : Y → Bool) (f : X → Y) (xs : List X) →
 any_mapped p f [] = refl
 any_mapped p f (x ∷ xs) = ap (λ (b : Bool). p (f x) || b) (any_mapped p f xs)
 
-pub All-from_each : {X : Type 0} (P : X → Type 0) (xs : List X) → ((x : X) → Contains xs x → P x) → All P xs
-All-from_each P xs each = λ k d inside. each (get_or xs k d) (k, inside, get_or_default xs k (get_or xs k d) d inside)
-
 -- what holds of pairs in a list holds of what is made from them
 pub map_pairs : {X Y : Type 0} (f : X → Y) (R : X → X → Type 0) (S : Y → Y → Type 0) → ((x y : X) → R x y → S (f x) (f y)) → (xs : List X) → AllPairs R xs → AllPairs S (map f xs)
 map_pairs f R S then [] pairs = λ i j d less inside. absurd (omega arith)
 map_pairs f R S then (x ∷ xs) pairs =
-    AllPairs-cons S (f x) (map f xs) (All-from_each (S (f x)) (map f xs) (λ y there. above y (Contains-map_from f xs y there))) (map_pairs f R S then xs (λ i j d less inside. pairs (suc i) (suc j) d (omega arith) (omega arith)))
+    AllPairs-cons S (f x) (map f xs) (all_contained (S (f x)) (map f xs) (λ y there. above y (Contains-map_from f xs y there))) (map_pairs f R S then xs (λ i j d less inside. pairs (suc i) (suc j) d (omega arith) (omega arith)))
   where
     above : (y : _) → (z : _) × Contains xs z × (f z ≡ y) → S (f x) y
     above y (z, there, is) = subst (S (f x)) is (then x z (All-contains (R x) xs z (λ k d inside. pairs 0 (suc k) d (omega arith) (omega arith)) there))
@@ -103,7 +101,7 @@ module _ (table : Graph) (changed : List PointId) (marks : List Bool) (are : Are
   stale_from : (point : PointId) → is_reached table marks point ≡ true → IsStale table changed point
   stale_from point test =
       let (edge, inside, passes) = any_is (reaches marks) (row_of table point) test in
-      let (negative, from) = both_true (int_lt edge.weight (pos 0)) (slice_index_or marks edge.from.0 false) passes in
+      let (negative, from) = and_parts (int_lt edge.weight (pos 0)) (slice_index_or marks edge.from.0 false) passes in
       let listed = Contains-filter_from (λ (e : Edge). e.to.0 == point.0) (edges_of table) edge inside in
       let ends = Contains-filter_passes (λ (e : Edge). e.to.0 == point.0) (edges_of table) edge inside in
       (edge, listed_edge table edge listed, same_point edge.to point ends, lt_is edge.weight (pos 0) negative, marked edge.from from)
@@ -131,7 +129,7 @@ pub stale_are : (net : Plan) (table : Graph) (changed : List PointId) (marks : L
 stale_are net table changed marks points targets fits long count known are is = subst (AreStale table changed) (sym listed) (record {
   rise = AllPairs-filter (λ (one other : PointId). one.0 < other.0) (is_reached table marks) (all_points table.shape) (all_rise table.shape);
   points = All-filter (is_reached table marks) (λ (p : PointId). p.0 < table.shape.points) (all_points table.shape) (all_inside table.shape);
-  stale = All-from_each (IsStale table changed) (filter (is_reached table marks) (all_points table.shape))
+  stale = all_contained (IsStale table changed) (filter (is_reached table marks) (all_points table.shape))
       (λ point inside. stale_from table changed marks are point (Contains-filter_passes (is_reached table marks) (all_points table.shape) point inside));
   whole = λ point inside stale.
       Contains-filter (is_reached table marks) (all_points table.shape) point (all_points_stand table.shape point inside) (stale_reached table changed marks are point within stale);

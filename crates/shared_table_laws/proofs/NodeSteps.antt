@@ -12,7 +12,7 @@ use Rattle.closure_model.specs.Tables.{Graph, lowered}
 use Rattle.closure_model.specs.declared.derivation.Node.{Node}
 use Rattle.closure_model.specs.declared.derivation.Rule.{Rule}
 use Rattle.closure_model.specs.declared.derivation.Rule.TheVariants as by_rule
-use Rattle.closure_model.proofs.Nodes.{mapped}
+use Rattle.closure_model.proofs.Slots.{some_of_map}
 use Rattle.shared_table_laws.specs.TableHistory as table_history
 use Rattle.shared_table_laws.specs.TableHistory.{Past, edges_read_by, RelaxesInRow, LowerInTurn, TableHistory}
 use Rattle.shared_table_laws.specs.NodeRules.{RoundPast, HasReadPremises, RoundHistory, begins, reads, adds, RoundHistoriesAreHistories}
@@ -20,8 +20,8 @@ use Rattle.shared_table_laws.specs.NodeRules.{RoundPast, HasReadPremises, RoundH
 -- what a rule gives from premises whose edges a worker read follows from what it read
 follows_from : (net : Plan) (first : Graph) (past : RoundPast) (worker : ℕ) (edge : Edge) (rule : Rule) → given_by net past.support.nodes rule ≡ Some edge
     → HasReadPremises first past worker rule → Follows net (edges_read_by worker past.read) edge
-follows_from net first past worker edge (by_rule.Bound name) given read = let (bound, at, is) = mapped bound_edge (slice_get net.bounds name.0) edge given in by_bound name.0 bound at is
-follows_from net first past worker edge (by_rule.Link name) given read = let (link, at, is) = mapped (link_edge name) (slice_get net.links name.0) edge given in by_link name link at is
+follows_from net first past worker edge (by_rule.Bound name) given read = let (bound, at, is) = some_of_map bound_edge (slice_get net.bounds name.0) edge given in by_bound name.0 bound at is
+follows_from net first past worker edge (by_rule.Link name) given read = let (link, at, is) = some_of_map (link_edge name) (slice_get net.links name.0) edge given in by_link name link at is
 follows_from net first past worker edge (by_rule.No one second) given (p, q) = by_no_case p.edge q.edge p.read q.read (rw (p.is, q.is) at given)
 follows_from net first past worker edge (by_rule.Up one second) given (p, q) = by_upper_case p.edge q.edge p.read q.read (rw (p.is, q.is) at given)
 follows_from net first past worker edge (by_rule.Low name second) given p = by_lower_case name p.edge p.read (rw p.is at given)

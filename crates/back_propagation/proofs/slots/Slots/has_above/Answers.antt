@@ -1,11 +1,12 @@
 use Rattle.std.proofs.Common.{rules, ◌≡◌, ◌==◌, ◌&&◌, ◌<◌, ◌||◌, ◌∙◌, ℕ, ℤ, pos, Bool, true, false, length, get_or, ap, sym, arith, w64, to_z, of_z}
 use Rattle.std.specs.Prelude.{int_lt, slice_get, Some}
 use Rattle.std.specs.Ordering.{int_eq}
+use Rattle.std.proofs.lemmas.List.{get_or_default}
 use Rattle.closure_model.specs.ReferenceRow.{has_above}
 use Rattle.closure_model.specs.declared.rows.Slot.{Slot}
 use Rattle.back_propagation.specs.SlimSlots.{no_weight, slots_of}
 use Rattle.back_propagation.specs.declared.slots.Slots.TheInside.{Inside}
-use Rattle.back_propagation.proofs.SlimSteps.{place_stored, slot_is, read_any, above_in}
+use Rattle.back_propagation.proofs.SlimSteps.{place_stored, slot_is, above_in}
 use Rattle.back_propagation.proofs.slots.Slots.has_above.Goals as goal
 
 pub index-held-requires : goal.index-held-requires
@@ -28,7 +29,7 @@ returns-then-weight-held c = λ slot here.
     let inside = place_stored c.self.inside c.args.self.now c.self.view_is c.args.place c.requires in
     let given : to_z w64 (of_z w64 c.args.weight) ≡ c.args.weight = search rules in
     let kept : to_z w64 (of_z w64 c.index-held.result.now) ≡ c.index-held.result.now = search rules in
-    let held : c.index-held.result.now ≡ get_or c.self.inside.weights.items c.args.place (pos 0) = c.index-held.ensures ∙ read_any c.self.inside.weights.items c.args.place c.index-held.result.now (pos 0) inside in
+    let held : c.index-held.result.now ≡ get_or c.self.inside.weights.items c.args.place (pos 0) = c.index-held.ensures ∙ get_or_default c.self.inside.weights.items c.args.place c.index-held.result.now (pos 0) inside in
     let less : int_lt c.args.weight (get_or c.self.inside.weights.items c.args.place (pos 0)) ≡ true = (λ i. int_lt (sym given i) (sym (kept ∙ held) i)) ∙ c.if-weight-held.true in
     c.if-weight-held.true
     ∙ sym (slot_has c.self.inside c.args.self.now c.self.view_is c.args.place c.requires slot c.args.weight here
@@ -40,8 +41,8 @@ returns-else-weight-held c = λ slot here.
     let marked : c.args.place < length c.self.inside.marks.items = omega (arith, inside, c.self.invariant.marks) in
     let given : to_z w64 (of_z w64 c.args.weight) ≡ c.args.weight = search rules in
     let kept : to_z w64 (of_z w64 c.index-held.result.now) ≡ c.index-held.result.now = search rules in
-    let held : c.index-held.result.now ≡ get_or c.self.inside.weights.items c.args.place (pos 0) = c.index-held.ensures ∙ read_any c.self.inside.weights.items c.args.place c.index-held.result.now (pos 0) inside in
-    let mark : c.index.result.now ≡ get_or c.self.inside.marks.items c.args.place 0 = c.index.ensures ∙ read_any c.self.inside.marks.items c.args.place c.index.result.now 0 marked in
+    let held : c.index-held.result.now ≡ get_or c.self.inside.weights.items c.args.place (pos 0) = c.index-held.ensures ∙ get_or_default c.self.inside.weights.items c.args.place c.index-held.result.now (pos 0) inside in
+    let mark : c.index.result.now ≡ get_or c.self.inside.marks.items c.args.place 0 = c.index.ensures ∙ get_or_default c.self.inside.marks.items c.args.place c.index.result.now 0 marked in
     let not_less : int_lt c.args.weight (get_or c.self.inside.weights.items c.args.place (pos 0)) ≡ false = (λ i. int_lt (sym given i) (sym (kept ∙ held) i)) ∙ c.if-weight-held.false in
     c.is_absent.ensures
     ∙ ((λ i. int_eq ((kept ∙ held) i) no_weight && mark i == 0)

@@ -1,10 +1,11 @@
 use Rattle.std.proofs.Common.{◌≡◌, ◌<◌, ◌∙◌, true, length, get_or, ap, refl, arith}
 use Rattle.std.specs.Prelude.{slice_set}
 use Rattle.std.specs.Vec.{with_item}
+use Rattle.std.proofs.lemmas.List.{get_or_default}
 use Rattle.closure_model.specs.declared.rows.Slot.{Slot}
 use Rattle.back_propagation.specs.SlimSlots.{slot_in, why_in}
 use Rattle.back_propagation.specs.declared.slots.Slots.TheInside.{Inside}
-use Rattle.back_propagation.proofs.SlimSteps.{place_stored, slot_is, settled_view, read_any}
+use Rattle.back_propagation.proofs.SlimSteps.{place_stored, slot_is, settled_view}
 use Rattle.back_propagation.proofs.slots.Slots.settle.Goals as goal
 
 pub index_mut-requires : goal.index_mut-requires
@@ -21,7 +22,7 @@ pub why_in-requires : goal.why_in-requires
 why_in-requires c =
     let inside = place_stored c.self.inside c.args.self.now c.self.view_is c.args.place c.requires in
     let marked : c.args.place < length c.self.inside.marks.items = omega (arith, inside, c.self.invariant.marks) in
-    let read : c.index.result.now ≡ get_or c.self.inside.marks.items c.args.place 0 = c.index.ensures ∙ read_any c.self.inside.marks.items c.args.place c.index.result.now 0 marked in
+    let read : c.index.result.now ≡ get_or c.self.inside.marks.items c.args.place 0 = c.index.ensures ∙ get_or_default c.self.inside.marks.items c.args.place c.index.result.now 0 marked in
     let few = c.self.invariant.whys c.args.place in
     let many = ap length c.as_slice.ensures.value in
     omega (arith, read, few, many)
@@ -32,7 +33,7 @@ returns c = λ slot at.
     let inside = place_stored c.self.inside c.args.self.now c.self.view_is c.args.place c.requires in
     let here : slot_in c.self.inside c.args.place ≡ slot = slot_is c.self.inside c.args.self.now c.self.view_is c.args.place c.requires slot at in
     let marked : c.args.place < length c.self.inside.marks.items = omega (arith, inside, c.self.invariant.marks) in
-    let mark : c.index.result.now ≡ get_or c.self.inside.marks.items c.args.place 0 = c.index.ensures ∙ read_any c.self.inside.marks.items c.args.place c.index.result.now 0 marked in
+    let mark : c.index.result.now ≡ get_or c.self.inside.marks.items c.args.place 0 = c.index.ensures ∙ get_or_default c.self.inside.marks.items c.args.place c.index.result.now 0 marked in
     let why : c.why_in.result ≡ why_in c.self.inside.whys.items (get_or c.self.inside.marks.items c.args.place 0) = c.why_in.ensures ∙ (λ i. why_in (c.as_slice.ensures.value i) (mark i)) in (
       settled_view c.self.inside
           (record {
