@@ -5,7 +5,7 @@ use Rattle.std.specs.Fmt.{decimal}
 use Rattle.std.proofs.lemmas.Bool.{ltb-true, ltb-false}
 use Rattle.texts.specs.Words.{is_remark, are_passed_over}
 use Rattle.net_model.specs.Names.{is_name}
-use Rattle.net_model.specs.Numbers.{is_zero, is_positive, value_of, limited, name_of, natural_of}
+use Rattle.net_model.specs.Numbers.{is_zero, is_positive, spells_natural, value_of, limited, name_of, natural_of}
 use Rattle.net_model.specs.Network.{Plan, point_named}
 use Rattle.net_model.specs.declared.ids.PointId.{PointId}
 use Rattle.net_model.specs.declared.format.FormatKind.{FormatKind}
@@ -13,7 +13,7 @@ use Rattle.net_model.specs.declared.format.FormatKind.TheVariants.{UnknownWord, 
 use Rattle.net_model.proofs.ReadWordLemmas.{choice, bind_ok, bind_err, name_ok, name_err, name_read, word_is}
 use Rattle.net_model.proofs.DecimalSpellingLemmas.{natural_spelled, spelled_natural}
 use Rattle.net_model.specs.Limits.{most_moment}
-use Rattle.event_stream.specs.EventText.{EventLine, blank, completed, done, NamesPoint, NamePoints, AreWordsOfEventLine, spells_moment, FitsMoment, MisfitsMoment, MisfitsPoint, FirstMisfitsPoint, IsFaultAfterAt, BeginsOtherwise}
+use Rattle.event_stream.specs.EventText.{EventLine, blank, completed, done, NamesPoint, NamePoints, AreWordsOfEventLine, FitsMoment, MisfitsMoment, MisfitsPoint, FirstMisfitsPoint, IsFaultAfterAt, BeginsOtherwise}
 use Rattle.event_stream.specs.EventText.{IsEventFaultOfWords, unknown_word, after_at, after_done}
 use Rattle.event_stream.specs.EventLines.{known, point_of, points_by_names, completions_line, done_line, event_line_by_word, event_line}
 
@@ -86,7 +86,7 @@ abbrev IsJudged : List ℕ → Result ℕ FormatKind → Type 0
 IsJudged word (Ok moment) = FitsMoment word
 IsJudged word (Err kind) = MisfitsMoment word kind
 
-judged_limit : (word : List ℕ) (beyond : Bool) → spells_moment word ≡ true → nat_lt most_moment (value_of word) ≡ beyond → IsJudged word (cond beyond (Err NumberLimit) (Ok (value_of word)))
+judged_limit : (word : List ℕ) (beyond : Bool) → spells_natural word ≡ true → nat_lt most_moment (value_of word) ≡ beyond → IsJudged word (cond beyond (Err NumberLimit) (Ok (value_of word)))
 judged_limit word true spells is = inr (spells, ltb-true most_moment (value_of word) is, refl)
 judged_limit word false spells is = (spells, ltb-false most_moment (value_of word) is)
 

@@ -1,10 +1,10 @@
 -- The grammar of lines of events, and the first fault of a line.
-use Rattle.std.specs.Prelude.{◌≡◌, ◌≢◌, ◌⊎◌, ℕ, ◌<◌, ◌≤◌, ◌||◌, Bool, true, false, List, [], ◌∷◌, None, Some, IsTrue, codes}
+use Rattle.std.specs.Prelude.{◌≡◌, ◌≢◌, ◌⊎◌, ℕ, ◌<◌, ◌≤◌, true, false, List, [], ◌∷◌, None, Some, IsTrue, codes}
 use Rattle.std.specs.List.{All}
 use Rattle.std.specs.Fmt.{decimal}
 use Rattle.texts.specs.Words.{words, are_passed_over}
 use Rattle.net_model.specs.Names.{is_name}
-use Rattle.net_model.specs.Numbers.{is_zero, is_positive, value_of}
+use Rattle.net_model.specs.Numbers.{spells_natural, value_of}
 use Rattle.net_model.specs.Network.{Plan, IsPoint, point_named}
 use Rattle.net_model.specs.declared.ids.PointId.{PointId}
 use Rattle.net_model.specs.declared.format.FormatKind.{FormatKind}
@@ -48,19 +48,15 @@ AreWordsOfEventLine net done words = words ≡ codes "done" ∷ []
 abbrev pub IsEventLine : Plan → EventLine → List ℕ → Type 0
 IsEventLine net stated line = AreWordsOfEventLine net stated (words line)
 
--- a word that spells a whole number from 0: `0`, or digits of which the first is not 0
-abbrev pub spells_moment : List ℕ → Bool
-spells_moment word = is_zero word || is_positive word
-
 -- a word that is a moment
 abbrev pub FitsMoment : List ℕ → Type 0
-FitsMoment word = IsTrue (spells_moment word) × (value_of word ≤ most_moment)
+FitsMoment word = IsTrue (spells_natural word) × (value_of word ≤ most_moment)
 
 -- a word in the place of a moment that is none, and why
 abbrev pub MisfitsMoment : List ℕ → FormatKind → Type 0
 MisfitsMoment word kind =
-    ((spells_moment word ≡ false) × (kind ≡ BadNumber))
-    ⊎ (IsTrue (spells_moment word) × (most_moment < value_of word) × (kind ≡ NumberLimit))
+    ((spells_natural word ≡ false) × (kind ≡ BadNumber))
+    ⊎ (IsTrue (spells_natural word) × (most_moment < value_of word) × (kind ≡ NumberLimit))
 
 -- a word in the place of a point that is not the name of one, and why
 abbrev pub MisfitsPoint : Plan → List ℕ → FormatKind → Type 0
