@@ -12,6 +12,9 @@ use Rattle.net_model.specs.declared.part.Edge.{Edge}
 use Rattle.net_model.specs.declared.part.Link.{Link}
 use Rattle.net_model.proofs.RuleLemmas.{no_case_gives, upper_case_gives, lower_case_gives, cross_case_gives, removal_gives}
 use Rattle.closure_model.specs.Derivable.{IsDerivable, by_bound, by_link, by_no_case, by_upper_case, by_lower_case, by_cross_case, by_removal}
+use Rattle.closure_model.proofs.Weights.{le_then, le_refl}
+use Rattle.closure_model.proofs.RuleSteps.{joined_not_less}
+use Rattle.closure_model.proofs.RuleMonotonicity.{below_zero}
 use Rattle.strategy_model.specs.Dispatch.{Stands, IsForwardClosedList}
 use Rattle.strategy_model.proofs.PlayLemmas.{link_sound}
 use Rattle.strategy_model.proofs.ClosedLemmas.{stands_bound, stands_link, stands_no_case, stands_upper_case, stands_lower_case, stands_cross_case, stands_removal}
@@ -19,23 +22,11 @@ use Rattle.closure_laws.specs.Forward.{IsCovered, stands, goes_by}
 use Rattle.closure_laws.specs.ForwardLaws.{DerivableAreCovered}
 
 -- ---- weights
-le_then : (a b c : ℤ) → a ≤ℤ b → b ≤ℤ c → a ≤ℤ c
-le_then a b c one two = grind (arith, ints)
-
-le_below : (a b : ℤ) → a ≤ℤ b → b <ℤ pos 0 → a <ℤ pos 0
-le_below a b one two = grind (arith, ints)
-
-le_itself : (a : ℤ) → a ≤ℤ a
-le_itself a = grind (arith, ints)
-
 sum_le : (a b c d : ℤ) → a ≤ℤ b → c ≤ℤ d → (a +ℤ c) ≤ℤ (b +ℤ d)
 sum_le a b c d one two = grind (arith, ints)
 
 over_from_zero : (v u : ℤ) → pos 0 ≤ℤ v → u ≤ℤ (v +ℤ u)
 over_from_zero v u from = grind (arith, ints)
-
-max_over : (v u : ℤ) → u ≤ℤ (int_max v (pos 0) +ℤ u)
-max_over v u = grind (arith, ints, int_max_is)
 
 max_most : (a v : ℤ) → a ≤ℤ v → a ≤ℤ int_max v (pos 0)
 max_most a v below = grind (arith, ints, int_max_is)
@@ -74,7 +65,7 @@ module _ (net : Plan) (edges : List Edge) (plan : IsPlan net) (closed : IsForwar
       by : (label : Option LinkId) → second.label ≡ label → Stands edges (record { from = first.from; to = second.to; label = second.label; weight = first.weight +ℤ second.weight })
       by None none =
           stands_as (record { from = first.from; to = second.to; label = None; weight = first.weight +ℤ second.weight }) (record { from = first.from; to = second.to; label = second.label; weight = first.weight +ℤ second.weight })
-          (stands_no_case net edges closed first second one two ordinary none meets negative from_zero) refl refl (sym none) (le_itself (first.weight +ℤ second.weight))
+          (stands_no_case net edges closed first second one two ordinary none meets negative from_zero) refl refl (sym none) (le_refl (first.weight +ℤ second.weight))
       by (Some label) some = stands_upper_case net edges closed first second label one two ordinary some meets negative from_zero
 
   -- an edge of the list that is not negative, and a covered one after it
@@ -83,8 +74,8 @@ module _ (net : Plan) (edges : List Edge) (plan : IsPlan net) (closed : IsForwar
   joined first one ordinary from_zero next (stands _ there) meets negative =
       stands (record { from = first.from; to = next.to; label = next.label; weight = first.weight +ℤ next.weight })
       (stands_as (record { from = first.from; to = there.entry.to; label = there.entry.label; weight = first.weight +ℤ there.entry.weight }) (record { from = first.from; to = next.to; label = next.label; weight = first.weight +ℤ next.weight })
-      (stands_joined first there.entry one there.among ordinary (meets ∙ sym there.from) (le_below there.entry.weight next.weight there.at_most negative) from_zero) refl there.to there.label
-      (sum_le first.weight first.weight there.entry.weight next.weight (le_itself first.weight) there.at_most))
+      (stands_joined first there.entry one there.among ordinary (meets ∙ sym there.from) (below_zero there.entry.weight next.weight there.at_most negative) from_zero) refl there.to there.label
+      (sum_le first.weight first.weight there.entry.weight next.weight (le_refl first.weight) there.at_most))
   joined first one ordinary from_zero next (goes_by middle last _ among plain below begins on ends labels least rest) meets negative =
       by (sign_of there.entry.weight) (λ rises. joined there.entry there.among there.label rises last rest (there.to ∙ on) last_negative)
     where
@@ -95,7 +86,7 @@ module _ (net : Plan) (edges : List Edge) (plan : IsPlan net) (closed : IsForwar
       whole = record { from = first.from; to = next.to; label = next.label; weight = first.weight +ℤ next.weight }
 
       last_negative : last.weight <ℤ pos 0
-      last_negative = le_below last.weight next.weight least negative
+      last_negative = below_zero last.weight next.weight least negative
 
       sum_below : (e f m l n : ℤ) → e ≤ℤ (f +ℤ m) → m <ℤ pos 0 → l ≤ℤ n → (e +ℤ l) ≤ℤ (f +ℤ n)
       sum_below e f m l n sum negative below = grind (arith, ints)
@@ -120,15 +111,15 @@ module _ (net : Plan) (edges : List Edge) (plan : IsPlan net) (closed : IsForwar
       whole = record { from = first.from; to = second.to; label = second.label; weight = int_max first.weight (pos 0) +ℤ second.weight }
 
       by : (there.entry.weight <ℤ pos 0) ⊎ (pos 0 ≤ℤ there.entry.weight) → IsCovered edges whole
-      by (inl falls) = goes_by there.entry second whole there.among (there.label ∙ ordinary) falls there.from (there.to ∙ meets) refl refl (max_over first.weight second.weight) two
+      by (inl falls) = goes_by there.entry second whole there.among (there.label ∙ ordinary) falls there.from (there.to ∙ meets) refl refl (joined_not_less first.weight second.weight) two
       by (inr rises) =
           covered_as (record { from = there.entry.from; to = second.to; label = second.label; weight = there.entry.weight +ℤ second.weight }) whole
           (joined there.entry there.among (there.label ∙ ordinary) rises second two (there.to ∙ meets) negative) there.from refl refl
-          (sum_le there.entry.weight (int_max first.weight (pos 0)) second.weight second.weight (max_most there.entry.weight first.weight there.at_most) (le_itself second.weight))
+          (sum_le there.entry.weight (int_max first.weight (pos 0)) second.weight second.weight (max_most there.entry.weight first.weight there.at_most) (le_refl second.weight))
   joins first (goes_by middle last _ among plain below begins on ends labels least rest) ordinary second two meets negative =
       goes_by middle (record { from = last.from; to = second.to; label = second.label; weight = int_max last.weight (pos 0) +ℤ second.weight })
       (record { from = first.from; to = second.to; label = second.label; weight = int_max first.weight (pos 0) +ℤ second.weight }) among plain below begins on refl refl
-      (sum_le (int_max last.weight (pos 0)) (int_max first.weight (pos 0)) second.weight second.weight (max_rises last.weight first.weight (pos 0) least) (le_itself second.weight))
+      (sum_le (int_max last.weight (pos 0)) (int_max first.weight (pos 0)) second.weight second.weight (max_rises last.weight first.weight (pos 0) least) (le_refl second.weight))
       (joins last rest (labels ∙ ordinary) second two (ends ∙ meets) negative)
 
   -- a covered negative edge, over a link
@@ -138,8 +129,8 @@ module _ (net : Plan) (edges : List Edge) (plan : IsPlan net) (closed : IsForwar
   over_link name link declared second begins negative straight (stands _ there) =
       stands (moved_to_activation link second)
       (stands_as (moved_to_activation link there.entry) (moved_to_activation link second)
-      (straight there.entry there.among there.label (there.from ∙ begins) (le_below there.entry.weight second.weight there.at_most negative)) refl there.to there.label
-      (sum_le link.low link.low there.entry.weight second.weight (le_itself link.low) there.at_most))
+      (straight there.entry there.among there.label (there.from ∙ begins) (below_zero there.entry.weight second.weight there.at_most negative)) refl there.to there.label
+      (sum_le link.low link.low there.entry.weight second.weight (le_refl link.low) there.at_most))
   over_link name link declared second begins negative straight (goes_by middle last _ among plain below from on ends labels least rest) = by (sign_of there.entry.weight)
     where
       there : Stands edges (moved_to_activation link middle)
@@ -157,7 +148,7 @@ module _ (net : Plan) (edges : List Edge) (plan : IsPlan net) (closed : IsForwar
           (le_then last.weight second.weight (link.low +ℤ second.weight) least (over_from_zero link.low second.weight low)) rest
       by (inr rises) =
           covered_as (record { from = there.entry.from; to = last.to; label = last.label; weight = there.entry.weight +ℤ last.weight }) (moved_to_activation link second)
-          (joined there.entry there.among (there.label ∙ plain) rises last rest (there.to ∙ on) (le_below last.weight second.weight least negative)) there.from ends labels
+          (joined there.entry there.among (there.label ∙ plain) rises last rest (there.to ∙ on) (below_zero last.weight second.weight least negative)) there.from ends labels
           (sum_under there.entry.weight link.low middle.weight last.weight second.weight there.at_most below least)
 
   -- a covered edge without its label

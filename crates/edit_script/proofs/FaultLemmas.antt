@@ -1,5 +1,6 @@
 -- A line that is not read departs from the forms of the lines of a session, and for one cause.
-use Rattle.std.proofs.Common.{◌≡◌, ◌⊎◌, ℕ, Bool, true, false, List, [], ◌∷◌, Option, None, Some, Result, Ok, Err, refl, sym, ◌∙◌, inl, inr}
+use Rattle.std.proofs.Common.{◌≡◌, ◌⊎◌, ℕ, true, false, List, [], ◌∷◌, Option, None, Some, Result, Ok, Err, refl, sym, ◌∙◌, inl, inr}
+use Rattle.std.proofs.lemmas.Bool.{false_from_ne_true}
 use Rattle.texts.specs.Words.{is_remark, are_passed_over}
 use Rattle.net_model.specs.Places.{Form, places_of}
 use Rattle.net_model.specs.declared.edit.Edit.{Edit}
@@ -36,13 +37,9 @@ departs (first ∷ others) kind read =
       | inr other ↦ step_departs (edit_form first) first others kind other.1
     ]
 
-not_true : (b : Bool) → (b ≡ true → ⊥) → b ≡ false
-not_true true none = absurd (none refl)
-not_true false none = refl
-
 pub fault_read : (words : List (List ℕ)) (kind : FormatKind) → step_of words ≡ Err kind → IsEditFaultOfWords words kind
 fault_read words kind read = record {
-  filled = not_true (are_passed_over words) (λ blank. never step.Blank kind (sym (stated_read step.Blank words blank) ∙ read));
+  filled = false_from_ne_true (are_passed_over words) (λ blank. never step.Blank kind (sym (stated_read step.Blank words blank) ∙ read));
   departs = departs words kind read;
 }
 

@@ -1,7 +1,8 @@
 -- A line that is not read departs from its form, and for the cause that is answered.
-use Rattle.std.proofs.Common.{◌≡◌, ℕ, Bool, true, false, List, [], ◌∷◌, Option, None, Result, Ok, Err, refl, sym, ap, ◌∙◌, subst, inl, inr, codes}
+use Rattle.std.proofs.Common.{◌≡◌, ℕ, true, List, [], ◌∷◌, Option, None, Result, Ok, Err, refl, sym, ap, ◌∙◌, subst, inl, inr, codes}
 use Rattle.std.specs.Str.{bytes_eq}
 use Rattle.std.specs.Result.{IfErr, IsErr, IsErrAnd}
+use Rattle.std.proofs.lemmas.Bool.{false_from_ne_true}
 use Rattle.texts.specs.Words.{words, is_remark, are_passed_over}
 use Rattle.net_model.specs.declared.format.FormatKind.{FormatKind}
 use Rattle.net_model.specs.declared.format.FormatKind.TheVariants.{UnknownWord}
@@ -75,14 +76,10 @@ header_unknown version stage said words is =
 passed : (version : PlanVersion) (stage : PlanStage) (words : List (List ℕ)) (kind : FormatKind) → plan_line version stage words ≡ Err kind → are_passed_over words ≡ true → ⊥
 passed version stage words kind read blank = never line.Blank kind (sym (blank_read version stage words blank) ∙ read)
 
-not_true : (b : Bool) → (b ≡ true → ⊥) → b ≡ false
-not_true true none = absurd (none refl)
-not_true false none = refl
-
 -- the fault of a line that is read alone
 pub fault_alone : (version : PlanVersion) (words : List (List ℕ)) (kind : FormatKind) → plan_line version Opened words ≡ Err kind → IsFaultAlone version words kind
 fault_alone version words kind read = record {
-  filled = not_true (are_passed_over words) (passed version Opened words kind read);
+  filled = false_from_ne_true (are_passed_over words) (passed version Opened words kind read);
   no_header = λ said same. never (line.Header (version_number said)) kind (sym (header_read version Opened said) ∙ (ap (plan_line version Opened) (sym same) ∙ read));
   departs = departs version Opened words kind read;
 }
