@@ -9,10 +9,10 @@ use Rattle.cert_format.specs.declared.line.CertLine.{CertLine}
 use Rattle.cert_format.proofs.PassedStepLemmas.{unless_ok}
 use Rattle.cert_checker.specs.Lines.{line_at, at_least, is_negative}
 
-le_is : (a b : ℤ) → int_le a b ≡ true → a ≤ℤ b
+pub le_is : (a b : ℤ) → int_le a b ≡ true → a ≤ℤ b
 le_is a b e = grind (arith, ints)
 
-lt_is : (a b : ℤ) → int_lt a b ≡ true → a <ℤ b
+pub lt_is : (a b : ℤ) → int_lt a b ≡ true → a <ℤ b
 lt_is a b e = grind (arith, ints)
 
 pub at_least_ok : (line : CertLine) (least : ℤ) → at_least line least ≡ Ok tt → least ≤ℤ line.weight

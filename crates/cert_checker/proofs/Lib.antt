@@ -3,6 +3,7 @@ pub mod Steps
 pub mod LineLoop
 pub mod RefusedLines
 pub mod CertificateNames
+pub mod PartNames
 pub mod Inversion
 pub mod LineConsequences
 pub mod LineDerivations

@@ -5,7 +5,7 @@ use Rattle.std.specs.List.{All, Contains, list_any, filter_map, cons_option, pos
 use Rattle.std.specs.Option.{option_map_or}
 use Rattle.std.proofs.lemmas.Option.{same_Some}
 use Rattle.std.proofs.lemmas.List.Quantifiers.{position-Some}
-use Rattle.std.proofs.lemmas.Bool.{both_ways}
+use Rattle.std.proofs.lemmas.Bool.{both_ways, false_from_ne_true}
 use borrow.Author.Tests.{ltb-true}
 use Rattle.std.proofs.lemmas.List.Folds.{list_any-from_Any, Any-from_list_any}
 use Rattle.std.proofs.lemmas.List.Elements.{All-get_or}
@@ -16,10 +16,6 @@ pub same_test : (a b : Bool) → (a ≡ true → b ≡ true) → (b ≡ true →
 same_test true b there back = sym (there refl)
 same_test false true there back = back refl
 same_test false false there back = refl
-
-pub not_true : (b : Bool) → (b ≡ true → ⊥) → b ≡ false
-not_true true none = absurd (none refl)
-not_true false none = refl
 
 -- an item that passes
 pub some_passes : {A : Type 0} (test : A → Bool) (xs : List A) → list_any test xs ≡ true → (x : A) × Contains xs x × (test x ≡ true)
@@ -32,7 +28,7 @@ passes_some test xs x among is = list_any-from_Any test xs (among.0, x, among.1,
 
 pub none_passes : {A : Type 0} (test : A → Bool) (xs : List A) (x : A) → list_any test xs ≡ false → Contains xs x → test x ≡ false
 none_passes test xs x none among =
-    not_true (test x) (λ is. both_ways (list_any test xs) none (passes_some test xs x among is))
+    false_from_ne_true (test x) (λ is. both_ways (list_any test xs) none (passes_some test xs x among is))
 
 -- an item of a list of which all hold
 pub holds_of : {A : Type 0} (P : A → Type 0) (xs : List A) (x : A) → All P xs → Contains xs x → P x

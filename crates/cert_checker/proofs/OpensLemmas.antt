@@ -1,6 +1,6 @@
 -- By its look-ups an entry gives an edge whose key has no such weight exactly if by the definition something of what the rules give
 -- with it does not stand among the entries.
-use Rattle.std.proofs.Common.{◌≡◌, ◌≢◌, ◌⊎◌, ℕ, ◌<◌, ◌≤◌, ◌==◌, ℤ, pos, ◌<ℤ◌, ◌≤ℤ◌, ◌+ℤ◌, ◌-ℤ◌, Bool, true, false, not, cond, ◌&&◌, ◌||◌, List, [], ◌∷◌, ◌++◌, length, get_or, Option, Some, None, zero, suc, position, refl, sym, ap, ◌∙◌}
+use Rattle.std.proofs.Common.{◌≡◌, ◌≢◌, ℕ, ◌<◌, ◌≤◌, ◌==◌, ℤ, pos, ◌<ℤ◌, ◌≤ℤ◌, ◌+ℤ◌, ◌-ℤ◌, Bool, true, false, not, cond, ◌&&◌, ◌||◌, List, [], ◌∷◌, ◌++◌, length, get_or, Option, Some, None, zero, suc, position, refl, sym, ap, ◌∙◌}
 use Rattle.std.proofs.Common.{subst, arith, inl, inr, unsigned_abs}
 use Rattle.std.specs.Prelude.{slice_get, int_le, int_lt, nat_lt}
 use Rattle.std.specs.Int.{int_max}
@@ -8,7 +8,7 @@ use Rattle.std.specs.List.{All, Contains, list_any, filter_map, position_or_len}
 use Rattle.std.specs.Option.{option_map, option_map_or}
 use Rattle.std.specs.Cmp.{both_ways}
 use Rattle.std.proofs.lemmas.Int.{ints, int_max_is}
-use Rattle.std.proofs.lemmas.Bool.{and_parts, lt-ltb}
+use Rattle.std.proofs.lemmas.Bool.{and_parts, lt-ltb, and_from, or_left, or_right, or_cases, not_from_false, not-true, eq-eqb}
 use Rattle.std.proofs.lemmas.Bool.Decides.{nat_tests}
 use Rattle.std.proofs.lemmas.List.Folds.{list_any-append}
 use Rattle.std.proofs.lemmas.List.Sums.{position_or_len_is}
@@ -24,12 +24,13 @@ use Rattle.net_model.specs.declared.ids.LinkId.{LinkId}
 use Rattle.net_model.specs.declared.part.Edge.{Edge}
 use Rattle.net_model.specs.declared.part.Link.{Link}
 use Rattle.net_model.proofs.RuleLemmas.{no_case_gives, upper_case_gives, lower_case_gives, cross_case_gives, removal_gives}
+use Rattle.net_model.proofs.AppliedRuleLemmas.{negative_holds, lower_case_applies}
 use Rattle.cert_checker.specs.Lines.{in_range}
 use Rattle.cert_checker.specs.Tables.{same_label_id, same_key, stands_among, link_ids, has_open_conclusion}
 use Rattle.cert_checker.specs.Sound.{IsSoundEdge}
 use Rattle.cert_checker.specs.Least.{absent, Weights, row_in, row_by, row_of_words, weight_in, IsSizedFor, IsSmallEdge, descends, improves_in, has_word_at_most}
 use Rattle.cert_checker.specs.OpenEntries.{is_unsaturated, is_open_before, is_open_after}
-use Rattle.cert_checker.proofs.Inversion.{contains_at}
+use Rattle.cert_checker.proofs.Inversion.{contains_at, le_is, lt_is}
 use Rattle.cert_checker.proofs.ListLemmas.{some_passes, passes_some, holds_of, any_given, place_within}
 use Rattle.cert_checker.proofs.LeastLemmas.{placed_before, row_length}
 use Rattle.cert_checker.proofs.RowLemmas.{improves_somewhere, improves_at}
@@ -37,44 +38,11 @@ use Rattle.cert_checker.proofs.OpenLemmas.{IsLeast}
 use Rattle.cert_checker.proofs.TableLaw.{key_same, link_among}
 
 -- ---- tests
-or_cases : (a b : Bool) → (a || b) ≡ true → (a ≡ true) ⊎ (b ≡ true)
-or_cases true b is = inl refl
-or_cases false b is = inr is
-
-or_left : (a b : Bool) → a ≡ true → (a || b) ≡ true
-or_left true b is = refl
-or_left false b is = absurd (cc)
-
-or_right : (a b : Bool) → b ≡ true → (a || b) ≡ true
-or_right true b is = refl
-or_right false b is = is
-
-both_true : (a b : Bool) → a ≡ true → b ≡ true → (a && b) ≡ true
-both_true true b one two = two
-both_true false b one two = absurd (cc)
-
-not_true_is : (b : Bool) → not b ≡ true → b ≡ false
-not_true_is true is = absurd (cc)
-not_true_is false is = refl
-
-not_false_is : (b : Bool) → b ≡ false → not b ≡ true
-not_false_is true is = absurd (cc)
-not_false_is false is = refl
-
 negative_is : (edge : Edge) → is_negative edge ≡ true → edge.weight <ℤ pos 0
 negative_is edge holds = grind (arith, ints)
 
-negative_test : (edge : Edge) → edge.weight <ℤ pos 0 → is_negative edge ≡ true
-negative_test edge below = grind (arith, ints)
-
-number_test : (k m : ℕ) → k ≡ m → (k == m) ≡ true
-number_test k m same = grind (arith, nat_tests)
-
 in_range_is : (w : ℤ) → in_range w ≡ true → unsigned_abs w ≤ most_weight
 in_range_is w is = grind (arith, nat_tests)
-
-le_is : (a b : ℤ) → int_le a b ≡ true → a ≤ℤ b
-le_is a b e = grind (arith, ints)
 
 -- ---- what the rules give
 abbrev joined : Edge → Edge → Edge
@@ -91,8 +59,8 @@ unfolding no_case
 no_case_applies first second one two meeting below =
     let first_is : is_ordinary first ≡ true = ordinary_test first one in
     let second_is : is_ordinary second ≡ true = ordinary_test second two in
-    let met : meet first second ≡ true = number_test first.to.0 second.from.0 (ap (λ (p : PointId). p.0) meeting) in
-    let negative : is_negative second ≡ true = negative_test second below in
+    let met : meet first second ≡ true = eq-eqb first.to.0 second.from.0 (ap (λ (p : PointId). p.0) meeting) in
+    let negative : is_negative second ≡ true = negative_holds second below in
     rw (first_is, second_is, met, negative) (ap (λ (l : Option LinkId). Some (let e : Edge = record { from = first.from; to = second.to; label = l; weight = joined_weight first second } in e)) (sym two))
 
 upper_case_applies : (first second : Edge) (label : LinkId) → first.label ≡ None → second.label ≡ Some label → first.to ≡ second.from → second.weight <ℤ pos 0 → upper_case first second ≡ Some (joined first second)
@@ -100,21 +68,13 @@ unfolding upper_case
 upper_case_applies first second label one two meeting below =
     let first_is : is_ordinary first ≡ true = ordinary_test first one in
     let second_is : is_labelled second ≡ true = labelled_test second label two in
-    let met : meet first second ≡ true = number_test first.to.0 second.from.0 (ap (λ (p : PointId). p.0) meeting) in
-    let negative : is_negative second ≡ true = negative_test second below in
+    let met : meet first second ≡ true = eq-eqb first.to.0 second.from.0 (ap (λ (p : PointId). p.0) meeting) in
+    let negative : is_negative second ≡ true = negative_holds second below in
     rw (first_is, second_is, met, negative) refl
 
 goes_test : (link : Link) (second : Edge) → second.from ≡ link.to → second.weight <ℤ pos 0 → goes_on_from link second ≡ true
 goes_test link second begins below =
-    both_true (second.from.0 == link.to.0) (is_negative second) (number_test second.from.0 link.to.0 (ap (λ (p : PointId). p.0) begins)) (negative_test second below)
-
-lower_case_applies : (net : Plan) (name : LinkId) (link : Link) (second : Edge) → IsLinkOf net name link → second.label ≡ None → second.from ≡ link.to → second.weight <ℤ pos 0
-    → lower_case net name second ≡ Some (moved_to_activation link second)
-unfolding lower_case
-lower_case_applies net name link second declared two begins below =
-    let second_is : is_ordinary second ≡ true = ordinary_test second two in
-    let goes : goes_on_from link second ≡ true = goes_test link second begins below in
-    rw (declared, second_is, goes) refl
+    and_from (second.from.0 == link.to.0) (is_negative second) (eq-eqb second.from.0 link.to.0 (ap (λ (p : PointId). p.0) begins)) (negative_holds second below)
 
 cross_case_applies : (net : Plan) (name : LinkId) (link : Link) (second : Edge) (label : LinkId) → IsLinkOf net name link → second.label ≡ Some label → is_labelled_by name second ≡ false → second.from ≡ link.to → second.weight <ℤ pos 0
     → cross_case net name second ≡ Some (moved_to_activation link second)
@@ -151,7 +111,7 @@ link_ends net plan name link point declared ends =
     same = ap (λ (p : PointId). p.0) (sym ends)
 
     here : get_or net.links name.0 link ≡ link → (get_or net.links name.0 link).to.0 == point.0 ≡ true
-    here is_link = ap (λ (l : Link). l.to.0 == point.0) is_link ∙ number_test link.to.0 point.0 same
+    here is_link = ap (λ (l : Link). l.to.0 == point.0) is_link ∙ eq-eqb link.to.0 point.0 same
 
     before : name.0 < length net.links → get_or net.links name.0 link ≡ link → (k : ℕ) → k < name.0 → (get_or net.links k link).to.0 == point.0 ≡ false
     before within is_link k earlier =
@@ -193,7 +153,7 @@ link_there net point name is = by (position (λ (l : Link). l.to.0 == point.0) n
 
 -- ---- arithmetic
 is_less_by : (v f w t : ℤ) → v ≤ℤ f → f <ℤ absent → int_le t (int_max f (pos 0) +ℤ w) ≡ false → descends v t w ≡ true
-is_less_by v f w t less small over = both_true (int_lt v absent) (int_lt (int_max v (pos 0) +ℤ w) t) (first v f less small) (second v f w t less over)
+is_less_by v f w t less small over = and_from (int_lt v absent) (int_lt (int_max v (pos 0) +ℤ w) t) (first v f less small) (second v f w t less over)
   where
     first : (v f : ℤ) → v ≤ℤ f → f <ℤ absent → int_lt v absent ≡ true
     first v f less small = grind (arith, ints)
@@ -206,9 +166,6 @@ improves_over v f w t less below = grind (arith, ints, int_max_is)
 
 self_le : (v : ℤ) → int_le v v ≡ true
 self_le v = grind (arith, ints)
-
-lt_is : (a b : ℤ) → int_lt a b ≡ true → a <ℤ b
-lt_is a b e = grind (arith, ints)
 
 small_weight : (w : ℤ) → unsigned_abs w ≤ most_weight → w <ℤ absent
 small_weight w few = omega (arith, ints, few)
@@ -263,16 +220,16 @@ module _ (net : Plan) (edges : List Edge) (sound : All (IsSoundEdge net) edges) 
   entry_word first among =
       let is = sound_at first among in
       let stands : stands_among edges first ≡ true = passes_some (λ e. same_key e first && int_le e.weight first.weight) edges first among
-      (both_true (same_key first first) (int_le first.weight first.weight) (own_key first) (self_le first.weight)) in
+      (and_from (same_key first first) (int_le first.weight first.weight) (own_key first) (self_le first.weight)) in
       le_is (weight_in table first) first.weight (least first is.is_edge (small_weight first.weight (within_at first is)) ∙ stands)
     where
       own_label : (label : Option LinkId) → same_label_id label label ≡ true
       own_label None = refl
-      own_label (Some name) = number_test name.0 name.0 refl
+      own_label (Some name) = eq-eqb name.0 name.0 refl
 
       own_key : (edge : Edge) → same_key edge edge ≡ true
-      own_key edge = both_true ((edge.from.0 == edge.from.0) && (edge.to.0 == edge.to.0)) (same_label_id edge.label edge.label)
-          (both_true (edge.from.0 == edge.from.0) (edge.to.0 == edge.to.0) (number_test edge.from.0 edge.from.0 refl) (number_test edge.to.0 edge.to.0 refl)) (own_label edge.label)
+      own_key edge = and_from ((edge.from.0 == edge.from.0) && (edge.to.0 == edge.to.0)) (same_label_id edge.label edge.label)
+          (and_from (edge.from.0 == edge.from.0) (edge.to.0 == edge.to.0) (eq-eqb edge.from.0 edge.from.0 refl) (eq-eqb edge.to.0 edge.to.0 refl)) (own_label edge.label)
 
   module _ (second : Edge) (is_second : IsSoundEdge net second) where
     joined_edge : (first : Edge) → IsPoint net first.from → IsEdge net (joined first second)
@@ -302,7 +259,7 @@ module _ (net : Plan) (edges : List Edge) (sound : All (IsSoundEdge net) edges) 
         let word : weight_in table first ≡ get_or (row_in table.ordinary second.from.0) first.from.0 absent = ap (λ (l : Option LinkId). get_or (row_by table first.to l) first.from.0 absent) ordinary
         ∙ ap (λ (p : PointId). get_or (row_in table.ordinary p.0) first.from.0 absent) meeting in
         let less : get_or (row_in table.ordinary second.from.0) first.from.0 absent ≤ℤ first.weight = subst (λ (w : ℤ). w ≤ℤ first.weight) word (entry_word first among) in
-        let over : has_word_at_most table (joined first second) ≡ false = not_true_is (has_word_at_most table (joined first second))
+        let over : has_word_at_most table (joined first second) ≡ false = not-true (has_word_at_most table (joined first second))
         (sym (unsaturated_is (joined first second) (joined_edge first from) (small_joined first.weight second.weight (within_at first is) second_few)) ∙ lacking) in
         let there : first.from.0 < length (row_in table.ordinary second.from.0) = omega (arith, from, firsts_count) in
         let also : first.from.0 < length (row_of_words table second) = omega (arith, from, others_count) in
@@ -339,7 +296,7 @@ module _ (net : Plan) (edges : List Edge) (sound : All (IsSoundEdge net) edges) 
             ordinary = same.label;
             meeting = same.to;
             lacking = unsaturated_is (joined first second) (joined_edge first sound_first.is_edge.from_point) (small_joined first.weight second.weight (within_at first sound_first) second_few)
-                ∙ not_false_is (has_word_at_most table (joined first second)) over;
+                ∙ not_from_false (has_word_at_most table (joined first second)) over;
           },
         )
 
@@ -434,14 +391,14 @@ module _ (net : Plan) (plan : IsPlan net) (edges : List Edge) (second : Edge) (i
               let (link, declared, begins) = link_there net second.from name found in
               let here : at_link name link ≡ true = sym (ap (λ o. option_map_or (at_link name) o false) declared) ∙ is in
               let (other, lacking) = and_parts (not (is_labelled_by name second)) (unsaturated edges (moved_to_activation link second)) here in
-              passes_some (λ n. by_lower n || by_cross n) (link_ids net) name (link_among net name link declared) (gives name link declared begins (not_true_is (is_labelled_by name second) other) lacking second.label refl)
+              passes_some (λ n. by_lower n || by_cross n) (link_ids net) name (link_among net name link declared) (gives name link declared begins (not-true (is_labelled_by name second) other) lacking second.label refl)
 
       opens_at : (name : LinkId) (link : Link) → IsLinkOf net name link → second.from ≡ link.to → is_labelled_by name second ≡ false → unsaturated edges (moved_to_activation link second) ≡ true → after_by (activation net second.from) ≡ true
       opens_at name link declared begins another lacking =
           let found : activation net second.from ≡ Some name = link_ends net plan name link second.from declared begins in
           ap after_by found
           ∙ ap (λ o. option_map_or (at_link name) o false) declared
-          ∙ both_true (not (is_labelled_by name second)) (unsaturated edges (moved_to_activation link second)) (not_false_is (is_labelled_by name second) another) lacking
+          ∙ and_from (not (is_labelled_by name second)) (unsaturated edges (moved_to_activation link second)) (not_from_false (is_labelled_by name second) another) lacking
 
       opens_lower : (name : LinkId) → by_lower name ≡ true → after_by (activation net second.from) ≡ true
       opens_lower name is =
@@ -523,7 +480,7 @@ module _ (net : Plan) (edges : List Edge) (second : Edge) where
       ∙ none_given edges (upper_case first second) (λ edge gave. over ((upper_case_gives first second edge gave).negative)))
     where
       over : second.weight <ℤ pos 0 → ⊥
-      over below = let is : is_negative second ≡ true = negative_test second below in absurd (cc)
+      over below = let is : is_negative second ≡ true = negative_holds second below in absurd (cc)
 
   nothing_after : is_negative second ≡ false → is_open_after net edges second ≡ false
   nothing_after not_negative =
@@ -532,7 +489,7 @@ module _ (net : Plan) (edges : List Edge) (second : Edge) where
       ∙ none_given edges (cross_case net name second) (λ edge gave. over ((cross_case_gives net name second edge gave).negative)))
     where
       over : second.weight <ℤ pos 0 → ⊥
-      over below = let is : is_negative second ≡ true = negative_test second below in absurd (cc)
+      over below = let is : is_negative second ≡ true = negative_holds second below in absurd (cc)
 
   abbrev plain : Bool
   plain = of_rule (λ first. no_case first second) edges

@@ -3,6 +3,7 @@ use Rattle.std.proofs.Common.{◌≡◌, ℕ, ◌+◌, ◌<◌, ◌≤◌, ℤ, 
 use Rattle.std.proofs.Common.{arith}
 use Rattle.std.proofs.lemmas.Int.{ints}
 use Rattle.std.proofs.Math.Bool.{or-false}
+use Rattle.std.proofs.lemmas.Bool.{or_left, or_right}
 use Rattle.net_model.specs.Limits.{most_weight}
 use Rattle.cert_checker.specs.Least.{absent, descends, improves_in}
 
@@ -19,14 +20,6 @@ improves_somewhere (first ∷ firsts) (other ∷ there) weight is = by (descends
         → ImprovesSomewhere (first ∷ firsts) (other ∷ there) weight
     by true here is later = (0, omega arith, here)
     by false here is later = let (k, within, descends) = later is in (suc k, omega arith, descends)
-
-or_right : (a b : Bool) → b ≡ true → (a || b) ≡ true
-or_right true b is = refl
-or_right false b is = is
-
-or_left : (a b : Bool) → a ≡ true → (a || b) ≡ true
-or_left true b is = refl
-or_left false b is = absurd (cc)
 
 pub improves_at : (firsts there : List ℤ) (weight : ℤ) (k : ℕ) → k < length firsts → k < length there → descends (get_or firsts k absent) (get_or there k absent) weight ≡ true → improves_in firsts there weight ≡ true
 improves_at [] there weight k within also is = absurd (omega arith)

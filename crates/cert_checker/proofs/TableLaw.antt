@@ -1,11 +1,10 @@
 -- A table proof that passes gives a strategy that controls the network: its entries are a closed list with an order.
-use Rattle.std.proofs.Common.{◌≡◌, ℕ, ◌+◌, ◌<◌, ℤ, ◌≤ℤ◌, ◌==◌, Bool, true, false, not, ◌&&◌, ◌||◌, List, [], ◌∷◌, ◌++◌, length, map, Option, Some, None, Result, Ok, Err, cond, zero, suc, refl, sym, ap, ◌∙◌, subst, arith, IsTrue, position}
+use Rattle.std.proofs.Common.{◌≡◌, ℕ, ◌+◌, ◌<◌, ℤ, ◌==◌, Bool, true, false, not, ◌&&◌, List, [], ◌∷◌, ◌++◌, length, map, Option, Some, None, Result, Ok, Err, cond, zero, suc, refl, sym, ap, ◌∙◌, subst, arith, IsTrue, position}
 use Rattle.std.specs.Prelude.{slice_get, int_le, nat_lt, find}
 use Rattle.std.specs.List.{AllByRecursion, Contains, IsDistinct, list_any, list_all, filter_map, enumerate_from, position_or_len}
 use Rattle.std.specs.Option.{option_map, option_map_or}
-use Rattle.std.proofs.lemmas.Bool.{and_parts, lt-ltb}
+use Rattle.std.proofs.lemmas.Bool.{and_parts, lt-ltb, or_parts, not-true}
 use Rattle.std.proofs.lemmas.Bool.Decides.{nat_tests}
-use Rattle.std.proofs.lemmas.Int.{ints}
 use Rattle.std.proofs.lemmas.List.Elements.{All-from_recursion, Contains-append_left, Contains-append_right}
 use Rattle.std.proofs.lemmas.List.Folds.{list_any-append}
 use Rattle.std.proofs.lemmas.List.Quantifiers.{position-Some}
@@ -43,7 +42,7 @@ use Rattle.cert_checker.specs.declared.judgement.CertFault.TheVariants.{UnknownI
 use Rattle.cert_checker.specs.declared.judgement.Judgement.TheVariants.{Accepted}
 use Rattle.cert_checker.specs.declared.judgement.Claim.TheVariants.{NotControllable, Controllable}
 use Rattle.cert_format.proofs.PassedStepLemmas.{bind_ok, there_ok, unless_ok}
-use Rattle.cert_checker.proofs.Inversion.{contains_at}
+use Rattle.cert_checker.proofs.Inversion.{contains_at, le_is}
 use Rattle.cert_checker.proofs.ListLemmas.{some_passes, none_passes, holds_of, any_given, none_at, nothing_found}
 
 -- ---- the lines
@@ -135,9 +134,6 @@ key_same edge other e =
     let point : ℕ → PointId = λ n. record { 0 = n } in
     record { from = ap point (same_id edge.from.0 other.from.0 from); to = ap point (same_id edge.to.0 other.to.0 to); label = label_same edge.label other.label label }
 
-le_is : (a b : ℤ) → int_le a b ≡ true → a ≤ℤ b
-le_is a b e = grind (arith, ints)
-
 stands : (edges : List Edge) (edge : Edge) → stands_among edges edge ≡ true → Stands edges edge
 stands edges edge is =
     let (entry, among, passes) = some_passes (λ e. same_key e edge && int_le e.weight edge.weight) edges is in
@@ -195,11 +191,6 @@ module _ (net : Plan) (edges : List Edge) where
       (contains_mapped (base_of_link net) (enumerate_from 0 net.links) k (0 + name.0, link) here)) in
       subst (λ (n : ℕ). Stands edges (link_edge (record { 0 = n }) link)) number is
 
--- a test of two lists side by side
-either_of : (a b : Bool) → (a || b) ≡ false → (a ≡ false) × (b ≡ false)
-either_of true b e = absurd (cc)
-either_of false b e = (refl, e)
-
 given_fails : {A : Type 0} (unsaturated : Edge → Bool) (give : A → Option Edge) (x : A) (edge : Edge) → give x ≡ Some edge → option_map_or unsaturated (give x) false ≡ false → unsaturated edge ≡ false
 given_fails unsaturated give x edge is fails = sym (ap (λ o. option_map_or unsaturated o false) is) ∙ fails
 
@@ -230,10 +221,10 @@ closed_at net edges second none =
     let c : List Edge = filter_map (λ name. lower_case net name second) (link_ids net) in
     let d : List Edge = filter_map (λ name. cross_case net name second) (link_ids net) in
     let e : List Edge = filter_map (removal net) (second ∷ []) in
-    let (first, more) = either_of (list_any unsaturated a) (list_any unsaturated (b ++ (c ++ (d ++ e)))) (sym (list_any-append unsaturated a (b ++ (c ++ (d ++ e)))) ∙ none) in
-    let (next, others) = either_of (list_any unsaturated b) (list_any unsaturated (c ++ (d ++ e))) (sym (list_any-append unsaturated b (c ++ (d ++ e))) ∙ more) in
-    let (third, rest) = either_of (list_any unsaturated c) (list_any unsaturated (d ++ e)) (sym (list_any-append unsaturated c (d ++ e)) ∙ others) in
-    let (fourth, last) = either_of (list_any unsaturated d) (list_any unsaturated e) (sym (list_any-append unsaturated d e) ∙ rest) in
+    let (first, more) = or_parts (list_any unsaturated a) (list_any unsaturated (b ++ (c ++ (d ++ e)))) (sym (list_any-append unsaturated a (b ++ (c ++ (d ++ e)))) ∙ none) in
+    let (next, others) = or_parts (list_any unsaturated b) (list_any unsaturated (c ++ (d ++ e))) (sym (list_any-append unsaturated b (c ++ (d ++ e))) ∙ more) in
+    let (third, rest) = or_parts (list_any unsaturated c) (list_any unsaturated (d ++ e)) (sym (list_any-append unsaturated c (d ++ e)) ∙ others) in
+    let (fourth, last) = or_parts (list_any unsaturated d) (list_any unsaturated e) (sym (list_any-append unsaturated d e) ∙ rest) in
     record { no_cases = first; upper_cases = next; lower_cases = third; cross_cases = fourth; removals = last }
 
 none_refused_ok : {A : Type 0} (line : ℕ) (why : CertFault) (refused : A → Bool) (xs : List A) (found : Option ℕ) → position refused xs ≡ found → refused_at line why found ≡ Ok tt → (x : A) → Contains xs x → refused x ≡ false
@@ -276,10 +267,6 @@ module _ (net : Plan) (line : ℕ) (edges : List Edge) (base : base_stands net e
 
 -- ---- the order
 
-not_not : (b : Bool) → not b ≡ true → b ≡ false
-not_not true e = absurd (cc)
-not_not false e = refl
-
 none_distinct : IsDistinct same_point []
 unfolding IsDistinct
 none_distinct = tt
@@ -291,8 +278,8 @@ more_distinct point points apart distinct = (apart, distinct)
 -- if a point stands neither among earlier ones nor is another
 split_apart : (earlier : List PointId) (point p : PointId) → list_any (same_point p) (earlier ++ point ∷ []) ≡ false → (list_any (same_point p) earlier ≡ false) × (same_point point p ≡ false)
 split_apart earlier point p none =
-    let (prefix, back) = either_of (list_any (same_point p) earlier) (list_any (same_point p) (point ∷ [])) (sym (list_any-append (same_point p) earlier (point ∷ [])) ∙ none) in
-    let (other, _) = either_of (same_point p point) false back in
+    let (prefix, back) = or_parts (list_any (same_point p) earlier) (list_any (same_point p) (point ∷ [])) (sym (list_any-append (same_point p) earlier (point ∷ [])) ∙ none) in
+    let (other, _) = or_parts (same_point p point) false back in
     (prefix, turned p point other)
   where
     turned : (p point : PointId) → same_point p point ≡ false → same_point point p ≡ false
@@ -311,7 +298,7 @@ pub once_apart : (earlier points : List PointId) → stand_once earlier points �
 once_apart earlier [] ok = (tt, none_distinct)
 once_apart earlier (point ∷ points) ok =
     let (_, new, rest) = bind_ok (unless (not (list_any (same_point point) earlier)) (refusal (length earlier + 1) OrderBroken)) _ tt ok in
-    let here : list_any (same_point point) earlier ≡ false = not_not (list_any (same_point point) earlier) (unless_ok (not (list_any (same_point point) earlier)) (refusal (length earlier + 1) OrderBroken) new) in
+    let here : list_any (same_point point) earlier ≡ false = not-true (list_any (same_point point) earlier) (unless_ok (not (list_any (same_point point) earlier)) (refusal (length earlier + 1) OrderBroken) new) in
     let (apart, distinct) = once_apart (earlier ++ point ∷ []) points rest in
     ((here, prefix_apart earlier point points apart), more_distinct point points (back_apart earlier point points apart) distinct)
 

@@ -1,23 +1,26 @@
 -- The certificate of a loop of reduced edges is accepted.
-use Rattle.std.proofs.Common.{◌≡◌, ℕ, ◌+◌, ◌<◌, ℤ, pos, ◌+ℤ◌, ◌<ℤ◌, Bool, true, List, [], ◌∷◌, Some, Ok, map, length, get_or, is_some, refl, ap, sym, subst, ◌∙◌, arith}
+use Rattle.std.proofs.Common.{◌≡◌, ℕ, ◌+◌, ◌<◌, ℤ, pos, ◌+ℤ◌, ◌<ℤ◌, Bool, true, List, [], ◌∷◌, Some, Ok, map, length, get_or, is_some, refl, ap, sym, subst, ◌∙◌, arith, Option}
 use Rattle.std.specs.List.{AllByRecursion}
 use Rattle.std.specs.Prelude.{slice_get, nat_le, int_le, int_lt, unsigned_abs}
 use Rattle.std.specs.Str.{bytes_eq}
 use Rattle.std.proofs.lemmas.Int.{ints}
 use Rattle.std.proofs.lemmas.Bool.{le-leb}
 use Rattle.std.proofs.lemmas.Option.{slice_get-get_or}
+use Rattle.std.specs.Option.{option_map_or, option_and_then}
 use Rattle.net_model.specs.Limits.{most_weight}
-use Rattle.net_model.specs.Network.{Plan, IsPlan, point_named}
+use Rattle.net_model.specs.Network.{Plan, IsPlan, point_named, bound_named}
 use Rattle.net_model.specs.NetworkParts.{point_name}
 use Rattle.net_model.specs.declared.ids.PointId.{PointId}
 use Rattle.net_model.specs.declared.part.Bound.{Bound}
 use Rattle.net_model.specs.declared.part.Edge.{Edge}
+use Rattle.net_model.specs.declared.ids.BoundId.{BoundId}
 use Rattle.strategy_model.specs.Edges.{IsWalk, total}
 use Rattle.cert_format.specs.JudgementForms.{◌>>=◌, unless}
 use Rattle.cert_format.specs.declared.strong_cert.StrongLine.{StrongLine}
 use Rattle.cert_checker.specs.Lines.{Passes, bound_of, names_point}
 use Rattle.cert_checker.specs.declared.judgement.CertFault.TheVariants.{WalkBroken, WalkNotNegative}
 use Rattle.cert_checker.proofs.CertificateNames.{bytes_same}
+use Rattle.cert_checker.proofs.PartNames.{named_point, has_name, named_bound}
 use Rattle.earliest_times.specs.Rounds.{edge_at_place, no_edge}
 use Rattle.strong_plan.specs.Numbers.{HasShownNumbers}
 use Rattle.strong_plan.specs.ReducedEdges.{reduced_edge}
@@ -26,7 +29,6 @@ use Rattle.strong_plan.specs.Answers.{AreReduced, reduced_line, lines_at}
 use Rattle.strong_plan.proofs.StrongLemmas.{root_executable}
 use Rattle.strong_plan.proofs.SizeLemmas.{reduced_size}
 use Rattle.strong_plan.proofs.EdgesLemmas.{count, at, reduced_at}
-use Rattle.strong_plan.proofs.NameLemmas.{named_point, has_name, bound_known}
 
 -- a line passes if each of its tests does
 line_ok : (net : Plan) (line : StrongLine) (bound : Bound) (edge : Edge) → is_some (point_named net line.from) ≡ true → is_some (point_named net line.to) ≡ true → bound_of net line.bound ≡ Some bound
@@ -40,6 +42,13 @@ least_itself w = grind (arith, ints)
 
 below_zero : (w : ℤ) → w <ℤ pos 0 → int_lt w (pos 0) ≡ true
 below_zero w less = grind (arith, ints, less)
+
+-- the name of a bound stands for it
+bound_known : (net : Plan) → IsPlan net → (place : ℕ) (bound : Bound) → slice_get net.bounds place ≡ Some bound → bound_of net (option_map_or (λ (b : Bound). b.name) (slice_get net.bounds place) []) ≡ Some bound
+bound_known net plan place bound here =
+    let name : option_map_or (λ (b : Bound). b.name) (slice_get net.bounds place) [] ≡ bound.name = ap (λ (o : Option Bound). option_map_or (λ (b : Bound). b.name) o []) here in
+    let named : bound_named net bound.name ≡ Some (record { 0 = place }) = named_bound net plan (record { 0 = place }) bound here in
+    ap (λ (o : Option BoundId). option_and_then (λ (b : BoundId). slice_get net.bounds b.0) o) (ap (bound_named net) name ∙ named) ∙ here
 
 module _ (net : Plan) (plan : IsPlan net) (numbers : HasShownNumbers net) (edges : List Edge) (are : AreReduced net edges) where
   abbrev name_of : PointId → List ℕ

@@ -10,7 +10,6 @@ pub mod HeightLemmas
 pub mod EdgesLemmas
 pub mod NumberLemmas
 pub mod SizeLemmas
-pub mod NameLemmas
 pub mod RingLemmas
 pub mod BoundLinesLemmas
 pub mod CertificateLemmas

@@ -4,7 +4,7 @@ use Rattle.std.specs.Prelude.{nat_lt}
 use Rattle.std.specs.List.{list_any, IsDistinct, AllByRecursion}
 use Rattle.std.specs.Option.{option_map, option_and_then}
 use Rattle.std.proofs.lemmas.Option.{same_Some, slice_get_within, none-some}
-use Rattle.std.proofs.lemmas.Bool.{lt-ltb, true≢false, cases_Bool, or_cases, eqb-true}
+use Rattle.std.proofs.lemmas.Bool.{lt-ltb, true≢false, cases_Bool, or_cases, eqb-true, or_parts}
 use Rattle.std.proofs.lemmas.List.{length-map}
 use Rattle.std.proofs.lemmas.Map.Steps.{length-le_from_distinct_below}
 use Rattle.net_model.specs.Network.{Plan, IsPlan, IsPoint, IsExecutable, activation}
@@ -17,7 +17,6 @@ use Rattle.strategy_model.proofs.KindLemmas.{kind_of_any}
 use Rattle.strong_plan.specs.Chains.{IsChain, ends, goes_on, same_end}
 use Rattle.strong_plan.specs.ReducedEdges.{link_into, chain_within, chain_of, root_of}
 use Rattle.strong_plan.proofs.ChainLemmas.{one_chain, within}
-use Rattle.strong_plan.proofs.SumLemmas.{or_left}
 use Rattle.strong_plan.proofs.StrongLemmas.{place_of}
 
 -- the link that a declared one gives
@@ -107,7 +106,7 @@ ends_of chain = map (λ (l : Link). l.to.0) chain
 
 pub each_other : (link : Link) (chain : List Link) → list_any (same_end link) chain ≡ false → AllByRecursion (λ (n : ℕ). eqb link.to.0 n ≡ false) (ends_of chain)
 each_other link [] none = tt
-each_other link (l ∷ chain) none = let (here, later) = or_left (same_end link l) (list_any (same_end link) chain) none in (here, each_other link chain later)
+each_other link (l ∷ chain) none = let (here, later) = or_parts (same_end link l) (list_any (same_end link) chain) none in (here, each_other link chain later)
 
 pub distinct : (net : Plan) → IsPlan net → (point : PointId) (chain : List Link) (root : PointId) → IsChain net point chain root → IsDistinct eqb (ends_of chain)
 unfolding IsDistinct

@@ -16,12 +16,12 @@ use Rattle.strategy_model.proofs.PlayLemmas.{link_sound}
 use Rattle.cert_format.specs.JudgementForms.{◌>>=◌, unless}
 use Rattle.cert_checker.specs.Lines.{link_named, names_point}
 use Rattle.cert_checker.specs.declared.judgement.CertFault.TheVariants.{UnknownItem, WalkBroken}
+use Rattle.cert_checker.proofs.PartNames.{named_point, has_name}
 use Rattle.earliest_times.specs.Rounds.{edge_at_place}
 use Rattle.strong_plan.specs.ReducedEdges.{link_into}
 use Rattle.strong_plan.specs.Judgement.{AllPass, refusal, points_pass, begins_in, follows, last_name, cert_passes}
 use Rattle.strong_plan.specs.Answers.{down_edge, names_at}
 use Rattle.strong_plan.proofs.ReducedEdgeLemmas.{into_link}
-use Rattle.strong_plan.proofs.NameLemmas.{named_point, has_name}
 
 -- a link leads from a point to a point
 abbrev pub IsLinked : Plan → PointId → PointId → Type 0

@@ -2,7 +2,7 @@
 use Rattle.std.proofs.Common.{◌≡◌, ℕ, ◌+◌, ◌*◌, ◌<◌, ◌≤◌, ℤ, pos, ◌≤ℤ◌, Bool, true, false, cond, not, List, [], ◌∷◌, ◌++◌, length, slice_get, eqb, refl, ap, sym, subst, ◌∙◌, inl, inr, arith}
 use Rattle.std.specs.List.{AllByRecursion, Contains, IsDistinct, filter, list_any}
 use Rattle.std.specs.Prelude.{unsigned_abs}
-use Rattle.std.proofs.lemmas.Bool.{eqb-true, eqb-false, ne_eqb, or_cases, true≢false}
+use Rattle.std.proofs.lemmas.Bool.{eqb-true, eqb-false, ne_eqb, or_cases, true≢false, not-true}
 use Rattle.std.proofs.lemmas.Int.{ints}
 use Rattle.std.proofs.lemmas.List.{length-append}
 use Rattle.std.proofs.lemmas.List.Elements.{All-contains}
@@ -16,7 +16,7 @@ use Rattle.strategy_model.proofs.PlayLemmas.{link_sound}
 use Rattle.strong_plan.specs.Chains.{same_end, apart, sum_of, IsReduced}
 use Rattle.strong_plan.specs.Numbers.{HasShownNumbers, most_shown}
 use Rattle.strong_plan.proofs.StrongLemmas.{IsNetLink, chain_links}
-use Rattle.strong_plan.proofs.SumLemmas.{kept_all, test_fails}
+use Rattle.strong_plan.proofs.SumLemmas.{kept_all}
 use Rattle.strong_plan.proofs.ReducedEdgeLemmas.{ends_of, each_other, distinct}
 
 -- a number is none of these
@@ -116,7 +116,7 @@ few_apart net plan bound edge reduced =
   where
     others : (links d : List Link) (test : Link → Bool) → AllByRecursion (λ link. IsNetLink net link × (not (list_any (same_end link) d) ≡ true)) links → AllByRecursion (λ (link : Link). IsOther link.to.0 (ends_of (filter test d))) links
     others [] d test all = tt
-    others (link ∷ links) d test all = (other_kept link.to.0 test d (each_other link d (test_fails (list_any (same_end link) d) all.0.1)), others links d test all.1)
+    others (link ∷ links) d test all = (other_kept link.to.0 test d (each_other link d (not-true (list_any (same_end link) d) all.0.1)), others links d test all.1)
 
 -- the sum over links of numbers that the shown form of a plan may have
 sum_small : (net : Plan) (Q : Link → Type 0) (f : Link → ℤ) → ((link : Link) → IsNetLink net link → (pos 0 ≤ℤ f link) × (f link ≤ℤ pos 1001000000)) → (links : List Link) → AllByRecursion (λ link. IsNetLink net link × Q link) links

@@ -4,7 +4,7 @@ use Rattle.std.proofs.Common.{◌∙◌, inl, inr, arith}
 use Rattle.std.specs.List.{list_any, filter, AllByRecursion, AllZip, Contains, position_or_len, slice_index}
 use Rattle.std.specs.Option.{option_map}
 use Rattle.std.specs.Prelude.{◌==◌}
-use Rattle.std.proofs.lemmas.Bool.{cases_lt, cases_Bool, true≢false, eq-eqb}
+use Rattle.std.proofs.lemmas.Bool.{cases_lt, cases_Bool, true≢false, eq-eqb, not-true}
 use Rattle.std.proofs.lemmas.Bool.Decides.{nat_tests}
 use Rattle.std.proofs.lemmas.Int.{ints}
 use Rattle.std.proofs.lemmas.List.{length-map, get_or-map}
@@ -34,7 +34,7 @@ use Rattle.strong_plan.specs.Strong.{executed_in, IsRightIn, IsStrongSchedule, I
 use Rattle.strong_plan.specs.Chains.{IsChain, ends, goes_on, same_end, apart, sum_of, reduced_weight, IsReduced}
 use Rattle.strong_plan.specs.Laws.{HasRoots, KeepsReduced, ReducedEdgesSuffice, ReducedEdgesHold}
 use Rattle.strong_plan.proofs.ChainLemmas.{one_chain, chains_meet}
-use Rattle.strong_plan.proofs.SumLemmas.{shared, sum_same, sum_most, kept_all, each_also, each_among, test_fails}
+use Rattle.strong_plan.proofs.SumLemmas.{shared, sum_same, sum_most, kept_all, each_also, each_among}
 
 -- ---- along a chain
 -- each link of the network takes this long in a schedule
@@ -115,7 +115,7 @@ worst_apart_in chain other =
 worst_apart_out : (chain other : List Link) → sum_of (worst chain) (apart other chain) ≡ sum_of (λ link. link.high) (apart other chain)
 worst_apart_out chain other =
     sum_same (worst chain) (λ link. link.high) (apart other chain) (each_also (λ l. (list_any (same_end l) other ≡ true) × (not (list_any (same_end l) chain) ≡ true)) (λ l. worst chain l ≡ l.high)
-    (λ l both. worst_out chain l (test_fails (list_any (same_end l) chain) both.1)) (apart other chain)
+    (λ l both. worst_out chain l (not-true (list_any (same_end l) chain) both.1)) (apart other chain)
     (kept_all (λ l. list_any (same_end l) other ≡ true) (λ l. not (list_any (same_end l) chain)) other (each_among other)))
 
 -- a bound that is kept there holds between the roots
