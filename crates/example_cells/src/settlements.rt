@@ -3,9 +3,9 @@
 ghost use Rattle.std.specs.Prelude.{◌≤◌};
 ghost use Rattle.closure_model.specs.Tables.{IsFor};
 
-use crate::gates::{CallCounter, Meeting};
+use crate::gates::{CallCounter, FirstTargets};
 use cell_table::{NoCellGate, Settled, close_by_cells, fits, settle};
-use example_plans::network;
+use example_plans::{Meeting, network};
 use net_model::{Network, PointId};
 use network_closure::{Closed, close};
 use situation_player::forge;
@@ -73,9 +73,10 @@ fn are_same(alloc: Global, net: &Network, one: &Closed, other: &Closed) -> Resul
 fn meet<R: Threads + Sync>(rt: &R, alloc: Global, net: &Network, workers: u32) -> Result<bool, Fail>
     requires { (1 ≤ workers) × (workers ≤ 64) }
 {
-    let meeting = Meeting::of(workers as u64);
-    settle(rt, alloc, net, workers, &meeting)?;
-    Ok(meeting.was_met(net.points().len() as u64))
+    let gate = FirstTargets(Meeting::of(workers as u64));
+    settle(rt, alloc, net, workers, &gate)?;
+    let targets = net.points().len() as u64;
+    Ok(gate.0.met().is_some_and(|begun| begun >= targets))
 }
 
 /// How many targets the sweeps of a network go over until it is settled.

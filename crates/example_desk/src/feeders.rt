@@ -4,8 +4,8 @@ ghost use Rattle.std.specs.Prelude.{◌≡◌, ◌<◌, ◌≤◌, length, IfOk,
 ghost use Rattle.std.specs.List.{All};
 ghost use Rattle.sensor_desk.specs.Desks.{IsSeatOfDesk};
 
-use crate::gates::Meeting;
-use example_plans::network;
+use crate::gates::FirstPosts;
+use example_plans::{Meeting, network};
 use net_model::{LinkId, Network};
 use sensor_desk::{Desk, DeskSeat, Feeder, NoPostGate};
 use std::alloc::{AllocError, Global};
@@ -65,9 +65,9 @@ fn try_posts<R: Abort + Threads + Sync>(
     requires seats { All (λ feeder. IsSeatOfDesk desk.now feeder.seat) feeders.old }
 {
     let links = [LinkId(0), LinkId(1), LinkId(0), LinkId(1)];
-    let gate = Meeting::of(feeders.len().min(2) as u64);
+    let gate = FirstPosts(Meeting::of(feeders.len().min(2) as u64));
     desk.post_all(rt, feeders, 7, links.as_slice(), &gate);
-    assert!(rt; gate.was_met(4));
+    assert!(rt; gate.0.met() == Some(4));
     desk.post_all(rt, feeders, 8, links.as_slice(), &NoPostGate);
     assert!(rt; all_met_first(feeders, 4));
     assert_eq!(rt; desk.read(seat, LinkId(0)), Some(7));

@@ -1,7 +1,10 @@
-//! The networks of tests, by the lines of their plans, and edits of them.
+//! The networks of tests, by the lines of their plans, edits of them, and a meeting of threads.
 #![tactic(auto)]
 
+mod meeting;
+
 use edit_script::{Step, read_step};
+pub use meeting::Meeting;
 use net_model::{Edit, MOST_DELAY, Network, Weight, WordFault};
 use plan_format::PlanReader;
 use std::alloc::Global;

@@ -4,10 +4,11 @@ ghost use Rattle.std.specs.Prelude.{◌≡◌, length};
 ghost use Rattle.closure_model.specs.ReferenceRow.{HasWeightsWithin};
 ghost use Rattle.closure_model.specs.Tables.{IsFor};
 
-use crate::gates::Meeting;
+use crate::gates::FirstRows;
 use crate::networks::network;
 use crate::workers::base;
 use derivation_dag::Plain;
+use example_plans::Meeting;
 use labelled_graph::Table;
 use net_model::{Network, PointId};
 use parallel_rounds::{Gate, Outcome, propagate, round_of, stale};
@@ -95,9 +96,9 @@ fn try_stale<R: Threads + Sync + Abort>(
     assert!(rt; targets.as_slice() == [PointId(0), PointId(2)].as_slice());
     let rows = round_of(rt, alloc, table, net, targets.as_slice(), 2, &gate)?;
     assert!(rt; rows.len() == 2 && gate.was_called(1, 0, 1));
-    let meeting = Meeting::of(2);
-    round_of(rt, alloc, table, net, targets.as_slice(), 2, &meeting)?;
-    assert!(rt; meeting.was_met(2), "two workers make rows at once");
+    let gate = FirstRows(Meeting::of(2));
+    round_of(rt, alloc, table, net, targets.as_slice(), 2, &gate)?;
+    assert!(rt; gate.0.met() == Some(2), "two workers make rows at once");
     Ok(())
 }
 

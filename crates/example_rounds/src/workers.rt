@@ -5,15 +5,15 @@ ghost use Rattle.std.specs.Prelude.{◌≡◌, length, IfOk};
 ghost use Rattle.closure_model.specs.ReferenceRow.{HasWeightsWithin};
 ghost use Rattle.closure_model.specs.Tables.{IsFor};
 
-use crate::gates::{Meeting, TURNS};
+use crate::gates::FirstRows;
 use crate::networks::network;
 use back_propagation::NewRow;
+use example_plans::Meeting;
 use labelled_graph::Table;
 use net_model::{Network, PointId};
 use parallel_rounds::{Gate, NoGate, round, work};
 use std::alloc::Global;
 use std::process::Abort;
-use std::sync::atomic::{AtomicBool, AtomicU64, Ordering};
 use std::test::Fail;
 use std::thread::Threads;
 use work_board::Board;
@@ -61,45 +61,33 @@ fn worked(alloc: Global, net: &Network, table: &Table) -> Result<Vec<NewRow>, Fa
     )?)
 }
 
-/// Counts the rows that have begun, and blocks that of one target until all three have.
+/// Blocks the row of one target until all three rows have begun.
 #[derive(Drop)]
 struct Holding {
     target: u32,
-    started_count: AtomicU64,
-    failed: AtomicBool,
+    meeting: Meeting,
 }
 
 impl Holding {
     fn of(target: u32) -> Holding {
         Holding {
             target,
-            started_count: AtomicU64::new(0),
-            failed: AtomicBool::new(false),
+            meeting: Meeting::of(3),
         }
-    }
-
-    /// Looks until all rows have begun, for so many turns at most, and says whether they have.
-    fn all_begin(&self) -> bool {
-        for _ in 0..TURNS {
-            if self.started_count.load(Ordering::SeqCst) == 3 {
-                return true;
-            }
-        }
-        false
     }
 
     /// Whether the row was released because all rows had begun, and as many have begun as there
     /// are.
     fn was_met(&self) -> bool {
-        !self.failed.load(Ordering::SeqCst) && self.started_count.load(Ordering::SeqCst) == 3
+        self.meeting.met() == Some(3)
     }
 }
 
 impl Gate for Holding {
     fn before(&self, target: u32) {
-        self.started_count.fetch_add(1, Ordering::SeqCst);
-        if target == self.target && !self.all_begin() {
-            self.failed.store(true, Ordering::SeqCst);
+        self.meeting.arrive();
+        if target == self.target {
+            self.meeting.wait();
         }
     }
 }
@@ -132,9 +120,9 @@ fn try_seven<R: Threads + Sync + Abort>(
     requires fits { IsFor net.now table.now }
     requires within { HasWeightsWithin net.now table.now }
 {
-    let gate = Meeting::of(7);
+    let gate = FirstRows(Meeting::of(7));
     let rows = round(rt, alloc, table, net, 7, &gate)?;
-    assert!(rt; rows.len() == 20 && gate.was_met(20));
+    assert!(rt; rows.len() == 20 && gate.0.met() == Some(20));
     Ok(())
 }
 

@@ -1,13 +1,12 @@
 //! The workers with which a session was opened: they make the rows after an edit too, and when it
 //! is reopened.
 
-use example_plans::{edit, network};
+use example_plans::{Meeting, edit, network};
 use net_model::{Edit, Network};
 use parallel_rounds::Gate;
 use plan_session::Session;
 use std::alloc::Global;
 use std::process::Abort;
-use std::sync::atomic::{AtomicU64, Ordering};
 use std::test::Fail;
 use std::thread::Threads;
 
@@ -15,46 +14,25 @@ const PLAN: &str = "point a|point b|bound early b a -2|bound late a b 9";
 
 const EDIT: &str = "set bound late 8";
 
-/// How often a gate looks, at most, whether a second row has begun.
-const TURNS: u64 = 500_000_000;
-
-/// Blocks the first row until a second has begun, and counts those that were released before.
+/// Blocks each row until two have begun.
 #[derive(Drop)]
-struct Pair {
-    started_count: AtomicU64,
-    alone: AtomicU64,
-}
+struct Pair(Meeting);
 
 impl Pair {
     fn new() -> Pair {
-        Pair {
-            started_count: AtomicU64::new(0),
-            alone: AtomicU64::new(0),
-        }
-    }
-
-    /// Looks until two rows have begun, for so many turns at most, and says whether they have.
-    fn both_begin(&self) -> bool {
-        for _ in 0..TURNS {
-            if self.started_count.load(Ordering::SeqCst) >= 2 {
-                return true;
-            }
-        }
-        false
+        Pair(Meeting::of(2))
     }
 
     /// Whether two rows have begun at once.
     fn was_met(&self) -> bool {
-        self.started_count.load(Ordering::SeqCst) >= 2 && self.alone.load(Ordering::SeqCst) == 0
+        self.0.met().is_some_and(|begun| begun >= 2)
     }
 }
 
 impl Gate for Pair {
     fn before(&self, _target: u32) {
-        self.started_count.fetch_add(1, Ordering::SeqCst);
-        if !self.both_begin() {
-            self.alone.fetch_add(1, Ordering::SeqCst);
-        }
+        self.0.arrive();
+        self.0.wait();
     }
 }
 
