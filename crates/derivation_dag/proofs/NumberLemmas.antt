@@ -4,7 +4,7 @@ use Rattle.std.specs.Prelude.{int_lt}
 use Rattle.std.specs.Bool.{MatchBool}
 use Rattle.std.specs.HashMap.{IsEmpty}
 use Rattle.std.proofs.lemmas.Int.{ints}
-use Rattle.std.proofs.lemmas.Bool.{eq-eqb, eqb-true}
+use Rattle.std.proofs.lemmas.Bool.{eq-eqb, eqb-true, and_parts, and_from}
 use Rattle.std.specs.Option.{option_eq}
 use Rattle.net_model.specs.contracts.ids.LinkIdPartialEq.TheImpl as link_eq
 use Rattle.net_model.specs.declared.ids.LinkId.{LinkId}
@@ -20,19 +20,12 @@ use Rattle.derivation_dag.specs.declared.numbers.Numbers.{Numbers}
 use Rattle.derivation_dag.specs.declared.pruned_dag.Numbered.{Numbered}
 use Rattle.derivation_dag.specs.Pruned.{AreNumbered, IsHeld}
 use Rattle.closure_model.proofs.Nodes.{at_push, before_push}
+use Rattle.closure_model.proofs.Weights.{lt_is_not}
 use Rattle.std.proofs.lemmas.List.{length_push}
 use Rattle.std.proofs.lemmas.List.Elements.{All-push, All-weaker}
 use Rattle.derivation_dag.specs.Numbers.{same_edge_key, edge_key, number_at, number_of, IsWithout, AreSame, NumbersNodes, IsBelowAll, IsBelowFirst, HasNodeAtMost}
 
 -- ---- edge keys that pass the test are the same
-both_true : (a b : Bool) → (a && b) ≡ true → (a ≡ true) × (b ≡ true)
-both_true true b is = (refl, is)
-both_true false b is = absurd cc
-
-true_both : (a b : Bool) → a ≡ true → b ≡ true → (a && b) ≡ true
-true_both true b one two = two
-true_both false b one two = absurd cc
-
 same_label : (E : LinkId → LinkId → Bool) → ((x y : LinkId) → E x y ≡ true → x ≡ y) → (o p : Option LinkId) → option_eq E o p ≡ true → o ≡ p
 same_label E statement None None is = refl
 same_label E statement None (Some y) is = absurd cc
@@ -45,8 +38,8 @@ label_itself E itself (Some x) = itself x
 
 tested : (a b : EdgeKey) → same_edge_key a b ≡ true → a ≡ b
 tested a b is =
-    let (to, rest) = both_true (a.to.0 == b.to.0) ((a.from.0 == b.from.0) && option_eq (link_eq.ghosts).eq a.label b.label) is in
-    let (from, label) = both_true (a.from.0 == b.from.0) (option_eq (link_eq.ghosts).eq a.label b.label) rest in
+    let (to, rest) = and_parts (a.to.0 == b.to.0) ((a.from.0 == b.from.0) && option_eq (link_eq.ghosts).eq a.label b.label) is in
+    let (from, label) = and_parts (a.from.0 == b.from.0) (option_eq (link_eq.ghosts).eq a.label b.label) rest in
     let to_same : a.to.0 ≡ b.to.0 = eqb-true a.to.0 b.to.0 to in
     let from_same : a.from.0 ≡ b.from.0 = eqb-true a.from.0 b.from.0 from in
     let label_same : a.label ≡ b.label = same_label (link_eq.ghosts).eq (λ x y e. ap (λ (k : ℕ). record { 0 = k }) (eqb-true x.0 y.0 e)) a.label b.label label in
@@ -54,14 +47,11 @@ tested a b is =
 
 passes : (a : EdgeKey) → same_edge_key a a ≡ true
 passes a =
-    true_both (a.to.0 == a.to.0) ((a.from.0 == a.from.0) && option_eq (link_eq.ghosts).eq a.label a.label) (eq-eqb a.to.0 a.to.0 refl)
-    (true_both (a.from.0 == a.from.0) (option_eq (link_eq.ghosts).eq a.label a.label) (eq-eqb a.from.0 a.from.0 refl) (label_itself (link_eq.ghosts).eq (λ x. eq-eqb x.0 x.0 refl) a.label))
+    and_from (a.to.0 == a.to.0) ((a.from.0 == a.from.0) && option_eq (link_eq.ghosts).eq a.label a.label) (eq-eqb a.to.0 a.to.0 refl)
+    (and_from (a.from.0 == a.from.0) (option_eq (link_eq.ghosts).eq a.label a.label) (eq-eqb a.from.0 a.from.0 refl) (label_itself (link_eq.ghosts).eq (λ x. eq-eqb x.0 x.0 refl) a.label))
 
 below_then : (w v u : ℤ) → int_lt w v ≡ true → v ≤ℤ u → w <ℤ u
 below_then w v u test less = grind (arith, ints)
-
-no_less : (w v : ℤ) → int_lt w v ≡ false → v ≤ℤ w
-no_less w v test = grind (arith, ints)
 
 -- ---- whether an edge is below every node of its key
 pub below_or_held : (nodes : List Node) (edge : Edge) (id : NodeId) (node : Node) → IsNodeOf nodes (key_of edge) id → node_at nodes id ≡ Some node → (b : Bool) → b ≡ int_lt edge.weight node.edge.weight
@@ -79,7 +69,7 @@ below_or_held nodes edge id node was here b is = by b is
     by false is' = record {
       id = id;
       of_key = was;
-      less = let weight : was.node.edge.weight ≡ node.edge.weight = ap (λ (n : Node). n.edge.weight) same in no_less edge.weight was.node.edge.weight (ap (int_lt edge.weight) weight ∙ sym is');
+      less = let weight : was.node.edge.weight ≡ node.edge.weight = ap (λ (n : Node). n.edge.weight) same in lt_is_not edge.weight was.node.edge.weight (ap (int_lt edge.weight) weight ∙ sym is');
     }
 
 -- an edge is below every node of a key that has none
