@@ -1,7 +1,7 @@
 -- Lines after names.
 use Rattle.std.proofs.Common.{◌≡◌, ◌≢◌, ℕ, ◌<◌, ◌≤◌, ◌==◌, Bool, true, false, cond, List, [], ◌∷◌, ◌++◌, length, map, refl, sym, ap, ◌∙◌, subst, arith, append_assoc}
 use Rattle.std.proofs.lemmas.List.{append-nil, length-append, map-append}
-use Rattle.std.proofs.lemmas.Bool.{cond-true, cond-false, ne_eqb}
+use Rattle.std.proofs.lemmas.Bool.{cond-true, cond-false, ne_eqb, false_from_ne_true}
 use Rattle.std.proofs.lemmas.Grind.{flat_map-append}
 use Rattle.std.proofs.lemmas.List.Elements.{filter-append}
 use Rattle.std.proofs.lemmas.Slice.Eq.{bytes_eq-Decides}
@@ -90,12 +90,8 @@ words_named name line naming =
 pub same_name : (name other : List ℕ) → name ≡ other → bytes_eq name other ≡ true
 same_name name other is = (bytes_eq-Decides name other).1 is
 
-false_by : (b : Bool) → (b ≡ true → ⊥) → b ≡ false
-false_by true never = absurd (never refl)
-false_by false never = refl
-
 pub other_name : (name other : List ℕ) → name ≢ other → bytes_eq name other ≡ false
-other_name name other is = false_by (bytes_eq name other) (λ same. is ((bytes_eq-Decides name other).0 same))
+other_name name other is = false_from_ne_true (bytes_eq name other) (λ same. is ((bytes_eq-Decides name other).0 same))
 
 is_its_own : (name line : List ℕ) → IsNaming name → is_of name (after_name name line) ≡ true
 is_its_own name line naming = ap (comes_first name) (words_named name line naming) ∙ same_name name name refl

@@ -1,8 +1,7 @@
 -- Each of many says what it says alone.
 use Rattle.std.proofs.Common.{◌≡◌, ◌≢◌, ◌⊎◌, inl, inr, ℕ, ◌+◌, ◌≤◌, ◌==◌, Bool, true, false, List, [], ◌∷◌, ◌++◌, length, Some, zero, suc, refl, sym, ap, ◌∙◌, subst, arith}
 use Rattle.std.specs.Prelude.{slice_set, slice_get, codes}
-use Rattle.std.proofs.lemmas.Bool.{cond-true, cond-false, eqb-true}
-use Rattle.std.proofs.lemmas.Bool.Decides.{Decides-eqb}
+use Rattle.std.proofs.lemmas.Bool.{cond-true, cond-false, eqb-true, eq-eqb}
 use Rattle.texts.specs.Lines.{InputLine}
 use Rattle.texts.specs.PrintedLines.{joined}
 use Rattle.texts.specs.Words.{words, are_passed_over, is_remark}
@@ -33,9 +32,6 @@ set_back : {A : Type 0} (xs : List A) (place : ℕ) (new one : A) → slice_get 
 set_back [] place new one is = absurd cc
 set_back (x ∷ xs) zero new one is = (cc, (x, refl))
 set_back (x ∷ xs) (suc place) new one is = set_back xs place new one is
-
-eqb_same : (a b : ℕ) → a ≡ b → (a == b) ≡ true
-eqb_same a b same = (Decides-eqb a b).1 same
 
 -- ---- whole lines
 idle_whole : (passed : Bool) → IsOfWholeLines (idle_said passed)
@@ -120,7 +116,7 @@ module _ {C : Type 0} (inner : Machine C) (whole_lines_said : SaysWholeLines inn
           let within = are.counted place member here in
           (member, subst (λ (p : ℕ). slice_get members p ≡ Some member) (sym equal) here, ap (λ (m : Member C). m.name) (sym back.0), omega (arith, count, within))
       was_by at one is false same =
-          let apart : at ≢ place = λ equal. absurd (cc (same, eqb_same at place equal)) in
+          let apart : at ≢ place = λ equal. absurd (cc (same, eq-eqb at place equal)) in
           let there : slice_get members at ≡ Some one = sym (set_elsewhere members place at (one_more member stands) apart) ∙ is in
           let within = are.counted at one there in
           (one, there, refl, omega (arith, within))
@@ -179,7 +175,7 @@ module _ {C : Type 0} (inner : Machine C) (whole_lines_said : SaysWholeLines inn
             }),
           )
       by place member here goes naming says false same =
-          let apart : place ≢ one.place = λ equal. absurd (cc (same, eqb_same place one.place equal)) in
+          let apart : place ≢ one.place = λ equal. absurd (cc (same, eq-eqb place one.place equal)) in
           let differ : first ≢ member.name = λ its. apart (are.different place one.place member one.member here one.here (sym its ∙ sym one.is)) in (
             member,
             subst (λ (ms : List (Member C)). slice_get ms place ≡ Some member) (sym goes) (set_elsewhere members one.place place (one_more one.member one.stands) apart ∙ here),
