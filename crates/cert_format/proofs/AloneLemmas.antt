@@ -1,109 +1,88 @@
--- What is read of a line alone is what its words spell, and its fault is its first.
-use Rattle.std.proofs.Common.{◌≡◌, ◌≢◌, ℕ, true, List, [], ◌∷◌, Option, None, Some, Result, Ok, Err, refl, sym, ap, ◌∙◌, subst, inl, inr}
+-- A line read alone is read as in a text in which every line may come, so what is read of it is what it says, and its fault is its first.
+use Rattle.std.proofs.Common.{◌≡◌, ◌≢◌, ℕ, true, false, cond, List, [], ◌∷◌, Option, None, Some, Result, Ok, Err, refl, sym, ap, ◌∙◌, subst}
+use Rattle.std.specs.Option.{is_some}
 use Rattle.std.specs.Result.{IfOk, IfErr, result_map_both}
 use Rattle.texts.specs.Words.{is_remark, are_passed_over, words}
+use Rattle.net_model.specs.Places.{Form, places_of, DepartsFrom}
 use Rattle.net_model.specs.declared.format.FormatKind.{FormatKind}
 use Rattle.net_model.specs.declared.format.WordFault.{WordFault}
 use Rattle.net_model.specs.declared.format.WordFault.TheVariants as word
-use Rattle.net_model.proofs.ReadWordLemmas.{choice}
+use Rattle.sectioned_texts.specs.FormFaults.{IsFaultAmong, unknown_word, departs}
+use Rattle.sectioned_texts.specs.SectionedTexts.{SectionedText, IsLineIn, passed_over, begins}
+use Rattle.sectioned_texts.specs.Reading.{refused_by, line_among, line_in}
+use Rattle.sectioned_texts.specs.Spellings.{Spell}
+use Rattle.sectioned_texts.proofs.LawfulTexts.{HasLawfulLines}
+use Rattle.sectioned_texts.proofs.LineLemmas.{one_word, line_read, line_said, line_says, line_err}
 use Rattle.cert_format.specs.Keywords.{spelled, keyword_of}
-use Rattle.cert_format.specs.FormFaults.{IsFaultAmong}
 use Rattle.cert_format.specs.LineForms.{form_of}
-use Rattle.cert_format.specs.CertificateLines.{line_by_word, line_by_keyword, cert_text}
 use Rattle.cert_format.specs.CertificateWords.{header_words}
-use Rattle.cert_format.specs.CertificateGrammar.{AreWordsOfCertificateLine, IsCertificateLine, IsCertificateFaultAlone, comes_after_header}
+use Rattle.cert_format.specs.CertificateGrammar.{CertificateProgress, certificate_spelling, certificate_lines, IsCertificateLine, IsCertificateFaultAlone, comes_after_header}
+use Rattle.cert_format.specs.CertificateFormat.{cert_text}
+use Rattle.cert_format.specs.declared.certificate.Certificate.{Certificate}
 use Rattle.cert_format.specs.declared.keyword.Keyword.{Keyword}
-use Rattle.cert_format.specs.declared.keyword.Keyword.TheVariants as keyword
+use Rattle.cert_format.specs.declared.section.Section.{Section}
+use Rattle.cert_format.specs.declared.section.Section.TheVariants as section
 use Rattle.cert_format.specs.declared.read.CertText.{CertText}
 use Rattle.cert_format.specs.declared.read.CertText.TheVariants as text
-use Rattle.cert_format.proofs.WordLemmas.{text_words, text_word, text_tail, tail_read, words_of_text, IsSpelledText, no_remark, keyword_spelled}
-use Rattle.cert_format.proofs.SpelledLineLemmas.{line_of_is, keyword_is}
-use Rattle.cert_format.proofs.FormFaultLemmas.{read_among, among_err}
-use Rattle.cert_format.proofs.FormLemmas.{header_err, cert_lines}
+use Rattle.cert_format.proofs.LineLemmas.{text_word, first_word, read_back}
+use Rattle.cert_format.proofs.TextLemmas.{certificate_lawful}
 
--- the words of a text that can be spelled are its words
-pub words_said : (said : CertText) (line : List (List ℕ)) → line ≡ text_words said → IsSpelledText said → AreWordsOfCertificateLine said line
-words_said text.Blank line same spelling = absurd spelling
-words_said text.Header line same spelling = same
-words_said text.Refutation line same spelling = same
-words_said text.Table line same spelling = same
-words_said (text.Line rule) line same spelling = (same, spelling)
-words_said (text.Walk i) line same spelling = (same, spelling)
-words_said (text.Order point) line same spelling = (same, spelling)
-words_said (text.Entry entry) line same spelling = (same, spelling)
-words_said text.End line same spelling = same
+-- the text in which every line may come anywhere
+abbrev free_lines : SectionedText Section Keyword CertText CertificateProgress Certificate
+free_lines = record certificate_lines { admits = λ section first. true; opens = λ section. false }
 
-keyword_ok : (first : List ℕ) (others : List (List ℕ)) (said : CertText) (found : Option Keyword) → keyword_of first ≡ found → line_by_keyword found others ≡ Ok said → AreWordsOfCertificateLine said (first ∷ others)
-keyword_ok first others said None is read = absurd (cc)
-keyword_ok first others said (Some k) is read =
-    let words : first ∷ others ≡ spelled k ∷ others = ap (λ (w : List ℕ). w ∷ others) (keyword_is first k is) in
-    let s = line_of_is k others said read in
-    words_said said (first ∷ others) (words ∙ s.words) s.spelling
+free_lawful : HasLawfulLines free_lines
+free_lawful =
+    let lines = certificate_lawful.lines in
+    record { found = lines.found; filled = lines.filled; said = lines.said; read = lines.read; blank = lines.blank; header = λ section line opens header. absurd (cc) }
 
-alone_ok : (line : List (List ℕ)) (said : CertText) → cert_text line ≡ Ok said → AreWordsOfCertificateLine said line
-unfolding cert_text
-alone_ok [] said read = let same : text.Blank ≡ said = cc in subst (λ (t : CertText). AreWordsOfCertificateLine t []) same refl
-alone_ok (first ∷ others) said read =
-    elim (choice (is_remark first) (Ok text.Blank) (line_by_keyword (keyword_of first) others) (Ok said) read) [
-      | inl remark ↦ let same : text.Blank ≡ said = cc in subst (λ (t : CertText). AreWordsOfCertificateLine t (first ∷ others)) same remark.0
-      | inr other ↦ keyword_ok first others said (keyword_of first) refl other.1
-    ]
+not_refused : (read : Result CertText FormatKind) → read ≡ refused_by false read
+not_refused (Ok said) = refl
+not_refused (Err kind) = refl
 
--- a line that begins with a first word
-read_by_keyword : (k : Keyword) (others : List (List ℕ)) (said : CertText) → line_by_word k others ≡ Ok said → cert_text (spelled k ∷ others) ≡ Ok said
-unfolding cert_text
-read_by_keyword k others said read = rw (no_remark k others, keyword_spelled k, read) refl
+alone_is : (line : List (List ℕ)) → cert_text line ≡ line_in free_lines section.Header line
+unfolding cert_text line_in
+alone_is [] = refl
+alone_is (first ∷ others) =
+    ap (λ (read : Result CertText FormatKind). cond (is_remark first) (Ok text.Blank) read) (not_refused (line_among certificate_lines (λ word. true) (keyword_of first) others))
 
-spelled_read : (said : CertText) (line : List (List ℕ)) → line ≡ text_words said → IsSpelledText said → cert_text line ≡ Ok said
-spelled_read said line same spelling =
-    ap cert_text (same ∙ words_of_text said spelling) ∙ read_by_keyword (text_word said) (text_tail said) said (tail_read said spelling)
+alone_ok : (line : List (List ℕ)) (said : CertText) → cert_text line ≡ Ok said → Spell certificate_spelling said line
+alone_ok line said read =
+    line_says free_lines free_lawful section.Header said line (line_said free_lines free_lawful section.Header line said (sym (alone_is line) ∙ read))
 
-alone_blank : (line : List (List ℕ)) → are_passed_over line ≡ true → cert_text line ≡ Ok text.Blank
-unfolding cert_text
-alone_blank [] blank = refl
-alone_blank (first ∷ others) blank = rw blank refl
+alone_comes : (line : List (List ℕ)) (said : CertText) → Spell certificate_spelling said line → IsLineIn free_lines section.Header said line
+alone_comes line text.Blank says = passed_over says refl
+alone_comes line text.Header says = begins (text_word text.Header) _ refl says.0 says
+alone_comes line text.Refutation says = begins (text_word text.Refutation) _ refl says.0 says
+alone_comes line text.Table says = begins (text_word text.Table) _ refl says.0 says
+alone_comes line (text.Line rule) says = begins (text_word (text.Line rule)) _ refl says.0 says
+alone_comes line (text.Walk i) says = begins (text_word (text.Walk i)) _ refl says.0 says
+alone_comes line (text.Order point) says = begins (text_word (text.Order point)) _ refl says.0 says
+alone_comes line (text.Entry entry) says = begins (text_word (text.Entry entry)) _ refl says.0 says
+alone_comes line text.End says = begins (text_word text.End) _ refl says.0 says
 
-pub alone_read : (said : CertText) (line : List (List ℕ)) → AreWordsOfCertificateLine said line → cert_text line ≡ Ok said
-alone_read text.Blank line is = alone_blank line is
-alone_read text.Header line is = spelled_read text.Header line is tt
-alone_read text.Refutation line is = spelled_read text.Refutation line is tt
-alone_read text.Table line is = spelled_read text.Table line is tt
-alone_read (text.Line rule) line is = spelled_read (text.Line rule) line is.0 is.1
-alone_read (text.Walk i) line is = spelled_read (text.Walk i) line is.0 is.1
-alone_read (text.Order point) line is = spelled_read (text.Order point) line is.0 is.1
-alone_read (text.Entry entry) line is = spelled_read (text.Entry entry) line is.0 is.1
-alone_read text.End line is = spelled_read text.End line is tt
+alone_read : (line : List (List ℕ)) (said : CertText) → Spell certificate_spelling said line → cert_text line ≡ Ok said
+alone_read line said says = alone_is line ∙ line_read free_lines free_lawful section.Header said line (alone_comes line said says)
 
-keyword_among : (found : Option Keyword) (others : List (List ℕ)) (fault : FormatKind) → line_by_keyword found others ≡ Err fault → read_among cert_lines comes_after_header found others ≡ Err fault
-keyword_among None others fault read = read
-keyword_among (Some keyword.Certificate) others fault read = ap (λ (k : FormatKind). Err k) (sym (header_err others fault read))
-keyword_among (Some keyword.Refutation) others fault read = read
-keyword_among (Some keyword.Table) others fault read = read
-keyword_among (Some keyword.Bound) others fault read = read
-keyword_among (Some keyword.Link) others fault read = read
-keyword_among (Some keyword.No) others fault read = read
-keyword_among (Some keyword.Up) others fault read = read
-keyword_among (Some keyword.Low) others fault read = read
-keyword_among (Some keyword.Cross) others fault read = read
-keyword_among (Some keyword.Drop) others fault read = read
-keyword_among (Some keyword.Walk) others fault read = read
-keyword_among (Some keyword.Order) others fault read = read
-keyword_among (Some keyword.Edge) others fault read = read
-keyword_among (Some keyword.Upper) others fault read = read
-keyword_among (Some keyword.End) others fault read = read
+-- a line that begins as a header does begins with no word that comes after the header
+among_by : (line : List (List ℕ)) (kind : FormatKind) (first : Keyword) (others : List (List ℕ)) (form : Option (Form CertText)) → form_of first ≡ form → line ≡ spelled first ∷ others → DepartsFrom (places_of form) others kind
+    → IsFaultAmong spelled form_of comes_after_header line kind
+among_by line kind first others (Some form) is same away =
+    departs first others (ap is_some is) same (subst (λ (f : Option (Form CertText)). DepartsFrom (places_of f) others kind) (sym is) away)
+among_by line kind first others None is same away =
+    unknown_word (ap are_passed_over same ∙ (first_word first).filled)
+    (λ next rest comes begins.
+    let (one, _) = one_word certificate_lines (λ k. (first_word k).found) line first next others rest same begins in
+    let wrong : false ≡ true = ap is_some (sym is ∙ ap form_of one) ∙ comes in
+    cc) away
 
-no_header : (line : List (List ℕ)) (fault : FormatKind) → cert_text line ≡ Err fault → line ≢ header_words
-no_header line fault read =
-    λ same. let wrong : Err fault ≡ Ok text.Header = sym read ∙ alone_read text.Header line same in cc
+among : (line : List (List ℕ)) (kind : FormatKind) → IsFaultAmong spelled form_of (λ first. true) line kind → IsFaultAmong spelled form_of comes_after_header line kind
+among line kind (unknown_word filled none is) = unknown_word filled (λ first others comes same. none first others refl same) is
+among line kind (departs first others may same away) = among_by line kind first others (form_of first) refl same away
 
-among : (line : List (List ℕ)) (fault : FormatKind) → cert_text line ≡ Err fault → IsFaultAmong spelled form_of comes_after_header line fault
-unfolding cert_text
-among [] fault read = absurd (cc)
-among (first ∷ others) fault read =
-    elim (choice (is_remark first) (Ok text.Blank) (line_by_keyword (keyword_of first) others) (Err fault) read) [
-      | inl remark ↦ absurd (let wrong : Ok text.Blank ≡ Err fault = remark.1 in cc)
-      | inr other ↦ among_err cert_lines comes_after_header first others fault other.0 (keyword_among (keyword_of first) others fault other.1)
-    ]
+no_header : (line : List (List ℕ)) (kind : FormatKind) → cert_text line ≡ Err kind → line ≢ header_words
+no_header line kind read =
+    λ same. let wrong : Err kind ≡ Ok text.Header = sym read ∙ alone_read line text.Header (same, tt) in cc
 
 -- the answer to a line read alone
 abbrev pub answer_of : Result CertText FormatKind → Result CertText WordFault
@@ -119,11 +98,12 @@ alone_grammar line answer is =
 
 fault_by : (line : List ℕ) (read : Result CertText FormatKind) → cert_text (words line) ≡ read → IfErr (answer_of read) (IsCertificateFaultAlone line)
 fault_by line (Ok said) is = tt
-fault_by line (Err fault) is = (no_header (words line) fault is, among (words line) fault is)
+fault_by line (Err kind) is =
+    (no_header (words line) kind is, among (words line) kind (line_err free_lines free_lawful section.Header (words line) kind (sym (alone_is (words line)) ∙ is)))
 
 pub alone_fault : (line : List ℕ) (answer : Result CertText WordFault) → answer ≡ answer_of (cert_text (words line)) → IfErr answer (IsCertificateFaultAlone line)
 alone_fault line answer is =
     subst (λ (a : Result CertText WordFault). IfErr a (IsCertificateFaultAlone line)) (sym is) (fault_by line (cert_text (words line)) refl)
 
 pub alone_every : (line : List ℕ) (answer : Result CertText WordFault) (said : CertText) → answer ≡ answer_of (cert_text (words line)) → IsCertificateLine said line → answer ≡ Ok said
-alone_every line answer said is says = is ∙ ap answer_of (alone_read said (words line) says)
+alone_every line answer said is says = is ∙ ap answer_of (alone_read (words line) said says)

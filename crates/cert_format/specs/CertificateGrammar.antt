@@ -1,21 +1,19 @@
--- The grammar of the texts of certificates: their lines and sections, the certificate that lines declare, and their first
--- fault.
-use Rattle.std.specs.Prelude.{◌≡◌, ◌≢◌, ℕ, ◌+◌, ◌≤◌, Bool, true, false, IsTrue, List, [], ◌∷◌, ◌++◌, map, length, if◌then◌else◌}
-use Rattle.std.specs.List.{All}
-use Rattle.texts.specs.Words.{are_passed_over, words}
-use Rattle.texts.specs.Lines.{lines}
+-- The grammar of the texts of certificates: what their lines say, their sections, what is read of them, and by these the text of a certificate as a text of lines
+-- in sections.
+use Rattle.std.specs.Prelude.{◌≡◌, ◌≢◌, ℕ, ◌≤◌, Bool, true, false, IsTrue, is_some, List, [], ◌∷◌, ◌++◌}
+use Rattle.texts.specs.Words.{words}
 use Rattle.net_model.specs.Names.{is_name}
 use Rattle.net_model.specs.declared.format.FormatKind.{FormatKind}
-use Rattle.net_model.specs.declared.format.FormatKind.TheVariants.{NoHeader, NoEnd}
 use Rattle.net_model.specs.declared.format.FormatFault.{FormatFault}
-use Rattle.net_model.specs.declared.format.TextFault.{TextFault}
-use Rattle.net_model.specs.declared.format.TextFault.TheVariants as whole
 use Rattle.net_model.specs.declared.format.WordFault.{WordFault}
 use Rattle.net_model.specs.declared.format.WordFault.TheVariants as word
+use Rattle.sectioned_texts.specs.FormFaults.{IsFaultAmong}
+use Rattle.sectioned_texts.specs.SectionedTexts.{SectionedText, IsPrefixOf, AreTextOf, IsFirstFaultOf}
+use Rattle.sectioned_texts.specs.Reading.{version_one}
+use Rattle.sectioned_texts.specs.Spellings.{Spelling, Spell, DeclareSpelled}
 use Rattle.cert_format.specs.Limits.{most_line_number}
-use Rattle.cert_format.specs.FormFaults.{IsFaultAmong}
 use Rattle.cert_format.specs.LineForms.{form_of}
-use Rattle.cert_format.specs.Keywords.{spelled, is_of_refutation, is_of_table}
+use Rattle.cert_format.specs.Keywords.{keywords, spelled, is_of_refutation, is_of_table}
 use Rattle.cert_format.specs.CertificateWords.{line_words, walk_words, order_words, entry_words, header_words, refutation_words, table_words, end_words}
 use Rattle.cert_format.specs.CertificateWords.{certificate_words, IsSpelledLine, IsSpelledEntry, IsSpelled}
 use Rattle.cert_format.specs.declared.keyword.Keyword.{Keyword}
@@ -29,44 +27,38 @@ use Rattle.cert_format.specs.declared.read.CertText.TheVariants as text
 use Rattle.cert_format.specs.declared.certificate.Certificate.{Certificate}
 use Rattle.cert_format.specs.declared.certificate.Certificate.TheVariants.{Refutation, TableProof}
 
--- how a line is spelled, by what it says
-abbrev pub AreWordsOfCertificateLine : CertText → List (List ℕ) → Type 0
-AreWordsOfCertificateLine text.Blank words = are_passed_over words ≡ true
-AreWordsOfCertificateLine text.Header words = words ≡ header_words
-AreWordsOfCertificateLine text.Refutation words = words ≡ refutation_words
-AreWordsOfCertificateLine text.Table words = words ≡ table_words
-AreWordsOfCertificateLine (text.Line line) words = (words ≡ line_words line) × IsSpelledLine line
-AreWordsOfCertificateLine (text.Walk i) words = (words ≡ walk_words i) × (i ≤ most_line_number)
-AreWordsOfCertificateLine (text.Order point) words = (words ≡ order_words point) × IsTrue (is_name point)
-AreWordsOfCertificateLine (text.Entry entry) words = (words ≡ entry_words entry) × IsSpelledEntry entry
-AreWordsOfCertificateLine text.End words = words ≡ end_words
+-- the words of a line, by what it says
+abbrev pub text_words : CertText → List (List ℕ)
+text_words text.Blank = []
+text_words text.Header = header_words
+text_words text.Refutation = refutation_words
+text_words text.Table = table_words
+text_words (text.Line line) = line_words line
+text_words (text.Walk i) = walk_words i
+text_words (text.Order point) = order_words point
+text_words (text.Entry entry) = entry_words entry
+text_words text.End = end_words
+
+-- what a line says can be spelled
+abbrev pub IsSpelledText : CertText → Type 0
+IsSpelledText text.Blank = ⊥
+IsSpelledText (text.Line line) = IsSpelledLine line
+IsSpelledText (text.Walk i) = i ≤ most_line_number
+IsSpelledText (text.Order point) = IsTrue (is_name point)
+IsSpelledText (text.Entry entry) = IsSpelledEntry entry
+IsSpelledText others = Unit {0}
+
+-- how certificates are spelled
+abbrev pub certificate_spelling : Spelling CertText Certificate
+certificate_spelling = record { words_of = text_words; IsSpelled = IsSpelledText; value_words = certificate_words; end_words = end_words; IsSpelledValue = IsSpelled }
 
 -- a line says this
 abbrev pub IsCertificateLine : CertText → List ℕ → Type 0
-IsCertificateLine said line = AreWordsOfCertificateLine said (words line)
-
--- the words of the lines that are not blank
-abbrev pub filled_words : List (List ℕ) → List (List (List ℕ))
-filled_words [] = []
-filled_words (line ∷ others) = if are_passed_over (words line) then filled_words others else words line ∷ filled_words others
+IsCertificateLine said line = Spell certificate_spelling said (words line)
 
 -- The lines declare a certificate, and these lines come after it: the lines up to the `end` line are spelled as the certificate is, with blank lines between.
-pub record DeclareCertificate (all : List (List ℕ)) (certificate : Certificate) (after : List (List ℕ)) : Type 0 where
-  pub prefix : List (List ℕ)
-  pub last : List ℕ
-  pub whole : all ≡ prefix ++ last ∷ after
-  pub said : filled_words (prefix ++ last ∷ []) ≡ certificate_words certificate
-  pub ends : IsCertificateLine text.End last
-  pub spelled : IsSpelled certificate
-
--- the text of a certificate, with anything after it
-abbrev pub IsCertificateText : List ℕ → Certificate → Type 0
-IsCertificateText bytes certificate = (after : List (List ℕ)) × DeclareCertificate (lines bytes) certificate after
-
--- lines that can be continued to a certificate
-abbrev pub CanBecomeCertificate : List (List ℕ) → Type 0
-CanBecomeCertificate prefix = (more : List (List ℕ)) × (certificate : Certificate) × (after : List (List ℕ))
-    × DeclareCertificate (prefix ++ more) certificate after
+abbrev pub DeclareCertificate : List (List ℕ) → Certificate → List (List ℕ) → Type 0
+DeclareCertificate = DeclareSpelled certificate_spelling
 
 -- which first words may come in a section
 abbrev pub admits : Section → Keyword → Bool
@@ -82,6 +74,16 @@ admits section.Entries keyword.Upper = true
 admits section.Entries keyword.End = true
 admits others first = false
 
+-- in the first section the header must come
+abbrev pub opens : Section → Bool
+opens section.Header = true
+opens others = false
+
+-- a certificate ends with the line `end`
+abbrev pub is_last : CertText → Bool
+is_last text.End = true
+is_last others = false
+
 -- what was read of a certificate: the section that is reached, and so far the rule lines and the walk of a refutation, the order
 -- and the entries of a table proof
 pub record CertificateProgress : Type 0 where
@@ -95,6 +97,18 @@ pub record CertificateProgress : Type 0 where
 abbrev pub initial : CertificateProgress
 initial = record { section = section.Header; lines = []; walk = []; order = []; entries = [] }
 
+-- what was read, with one line more
+abbrev pub advanced : CertificateProgress → CertText → CertificateProgress
+advanced read text.Blank = read
+advanced read text.Header = record read { section = section.Kind }
+advanced read text.Refutation = record read { section = section.Rules }
+advanced read text.Table = record read { section = section.Order }
+advanced read (text.Line line) = record read { lines = read.lines ++ line ∷ [] }
+advanced read (text.Walk i) = record read { section = section.Walk; walk = read.walk ++ i ∷ [] }
+advanced read (text.Order point) = record read { order = read.order ++ point ∷ [] }
+advanced read (text.Entry entry) = record read { section = section.Entries; entries = read.entries ++ entry ∷ [] }
+advanced read text.End = read
+
 -- the certificate of which all was read, by the section in which it ends
 abbrev pub certificate_by : Section → CertificateProgress → Certificate
 certificate_by section.Order read = TableProof read.order read.entries
@@ -105,86 +119,41 @@ certificate_by others read = Refutation read.lines read.walk
 abbrev pub certificate_of : CertificateProgress → Certificate
 certificate_of read = certificate_by read.section read
 
--- how the lines are spelled with which a section is reached
-abbrev pub prefix_words : Section → CertificateProgress → List (List (List ℕ))
-prefix_words section.Header read = []
-prefix_words section.Kind read = header_words ∷ []
-prefix_words section.Rules read = header_words ∷ refutation_words ∷ map line_words read.lines
-prefix_words section.Walk read = header_words ∷ refutation_words ∷ (map line_words read.lines ++ map walk_words read.walk)
-prefix_words section.Order read = header_words ∷ table_words ∷ map order_words read.order
-prefix_words section.Entries read = header_words ∷ table_words ∷ (map order_words read.order ++ map entry_words read.entries)
+-- the text of a certificate as a text of lines in sections
+abbrev pub certificate_lines : SectionedText Section Keyword CertText CertificateProgress Certificate
+certificate_lines = record {
+  first_words = keywords;
+  spelled = spelled;
+  admits = admits;
+  form_of = form_of;
+  header = version_one text.Header;
+  IsHeader = λ line. line ≡ header_words;
+  opens = opens;
+  says = Spell certificate_spelling;
+  blank = text.Blank;
+  is_last = is_last;
+  initial = initial;
+  section = λ read. read.section;
+  advanced = advanced;
+  value = certificate_of;
+  declares = DeclareCertificate;
+}
 
--- nothing was read of a refutation, or of a table proof
-abbrev pub NoRefutation : CertificateProgress → Type 0
-NoRefutation read = (read.lines ≡ []) × (read.walk ≡ [])
+-- the text of a certificate, with anything after it
+abbrev pub IsCertificateText : List ℕ → Certificate → Type 0
+IsCertificateText = AreTextOf certificate_lines
 
--- nothing was read of a table proof
-abbrev pub NoTable : CertificateProgress → Type 0
-NoTable read = (read.order ≡ []) × (read.entries ≡ [])
+-- the prefix of a certificate: its lines lead to what is read of them
+abbrev pub IsPrefix : List (List ℕ) → CertificateProgress → Type 0
+IsPrefix = IsPrefixOf certificate_lines
 
--- what may have been read when a section is reached
-abbrev pub IsSectionReached : Section → CertificateProgress → Type 0
-IsSectionReached section.Header read = NoRefutation read × NoTable read
-IsSectionReached section.Kind read = NoRefutation read × NoTable read
-IsSectionReached section.Rules read = (read.walk ≡ []) × NoTable read
-IsSectionReached section.Walk read = (read.walk ≢ []) × NoTable read
-IsSectionReached section.Order read = (read.entries ≡ []) × NoRefutation read
-IsSectionReached section.Entries read = (read.entries ≢ []) × NoRefutation read
+-- the first fault of lines that are no certificate
+abbrev pub IsFirstCertificateFault : List (List ℕ) → FormatFault → Type 0
+IsFirstCertificateFault = IsFirstFaultOf certificate_lines
 
--- what was read can be spelled: the rule lines, the walk, the order and the entries
-abbrev pub AreSpelled : CertificateProgress → Type 0
-AreSpelled read =
-    All IsSpelledLine read.lines × All (λ i. i ≤ most_line_number) read.walk × All (λ point. IsTrue (is_name point)) read.order
-    × All IsSpelledEntry read.entries
-
--- the prefix of a certificate: its lines are spelled as what was read of it, with blank lines between
-pub record IsPrefix (prefix : List (List ℕ)) (read : CertificateProgress) : Type 0 where
-  pub said : filled_words prefix ≡ prefix_words read.section read
-  pub reached : IsSectionReached read.section read
-  pub spelled : AreSpelled read
-
--- the fault of a line in a section
-abbrev pub IsFaultIn : Section → List (List ℕ) → FormatKind → Type 0
-IsFaultIn section.Header line kind = (are_passed_over line ≡ false) × (line ≢ header_words) × (kind ≡ NoHeader)
-IsFaultIn others line kind = IsFaultAmong spelled form_of (admits others) line kind
-
--- the fault of a text that ends in a section
-abbrev pub missing : Section → FormatKind
-missing section.Header = NoHeader
-missing others = NoEnd
-
--- the fault of the lines that are left when a section is reached
-abbrev pub IsFaultOfRest : Section → List (List ℕ) → FormatKind → Type 0
-IsFaultOfRest section [] kind = kind ≡ missing section
-IsFaultOfRest section (line ∷ others) kind = IsFaultIn section (words line) kind
-
--- the first of the lines that are left, or that there is none, excludes a certificate
-abbrev pub ExcludesCertificate : List (List ℕ) → List (List ℕ) → Type 0
-ExcludesCertificate prefix [] = (certificate : Certificate) (after : List (List ℕ)) → DeclareCertificate prefix certificate after → ⊥
-ExcludesCertificate prefix (line ∷ others) = CanBecomeCertificate (prefix ++ line ∷ []) → ⊥
-
--- The first fault of lines: those before it can be continued to a certificate, with its line they cannot, and its kind is
--- how that line first departs from what may come there, or that the text ends.
-pub record IsFirstCertificateFault (all : List (List ℕ)) (fault : FormatFault) : Type 0 where
-  pub prefix : List (List ℕ)
-  pub rest : List (List ℕ)
-  pub read : CertificateProgress
-  pub whole : all ≡ prefix ++ rest
-  pub place : fault.line ≡ length prefix + 1
-  pub possible : CanBecomeCertificate prefix
-  pub refused : ExcludesCertificate prefix rest
-  pub reached : IsPrefix prefix read
-  pub departs : IsFaultOfRest read.section rest fault.kind
-
--- the fault of an answer is the first one of a text
-abbrev pub FaultIsFirst : List ℕ → TextFault → Type 0
-FaultIsFirst bytes (whole.Format fault) = IsFirstCertificateFault (lines bytes) fault
-FaultIsFirst bytes whole.OutOfMemory = Unit {0}
-
--- the first words of the lines after the header
+-- the first words of the lines after the header: those whose lines have a form
 abbrev pub comes_after_header : Keyword → Bool
-comes_after_header keyword.Certificate = false
-comes_after_header others = true
+comes_after_header first = is_some (form_of first)
 
 -- the fault of a line that is read alone; it takes no memory
 abbrev pub IsCertificateFaultAlone : List ℕ → WordFault → Type 0

@@ -1,16 +1,11 @@
 pub mod Limits
 pub mod Kind
 pub mod Keywords
-pub mod FormFaults
 pub mod LineForms
 pub mod CertificateWords
 pub mod CertificateGrammar
-pub mod CertificateLines
 pub mod CertificateFormat
 pub mod StrongWords
 pub mod StrongForms
 pub mod StrongGrammar
-pub mod StrongLines
-pub mod StrongReading
-pub mod Laws
 pub mod JudgementForms

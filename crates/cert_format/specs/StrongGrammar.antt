@@ -1,19 +1,13 @@
--- The grammar of the texts of strong certificates: their lines and sections, the certificate that lines declare, and their
--- first fault.
-use Rattle.std.specs.Prelude.{◌≡◌, ◌≢◌, ℕ, ◌+◌, Bool, true, false, IsTrue, List, [], ◌∷◌, ◌++◌, map, length}
-use Rattle.std.specs.List.{All}
-use Rattle.texts.specs.Words.{are_passed_over, words}
-use Rattle.texts.specs.Lines.{lines}
+-- The grammar of the texts of strong certificates: what their lines say, their sections, what is read of them, and by these the text of a strong certificate as a
+-- text of lines in sections.
+use Rattle.std.specs.Prelude.{◌≡◌, ℕ, Bool, true, false, IsTrue, List, [], ◌∷◌, ◌++◌, Result}
 use Rattle.net_model.specs.Names.{is_name}
-use Rattle.net_model.specs.declared.format.FormatKind.{FormatKind}
-use Rattle.net_model.specs.declared.format.FormatKind.TheVariants.{NoHeader, NoEnd}
 use Rattle.net_model.specs.declared.format.FormatFault.{FormatFault}
-use Rattle.net_model.specs.declared.format.TextFault.{TextFault}
-use Rattle.net_model.specs.declared.format.TextFault.TheVariants as whole
+use Rattle.sectioned_texts.specs.SectionedTexts.{SectionedText, IsPrefixOf, AreTextOf, IsFirstFaultOf}
+use Rattle.sectioned_texts.specs.Spellings.{Spelling, Spell, DeclareSpelled}
+use Rattle.sectioned_texts.specs.Reading.{read_text, version_one}
 use Rattle.cert_format.specs.CertificateWords.{end_words}
-use Rattle.cert_format.specs.CertificateGrammar.{filled_words}
-use Rattle.cert_format.specs.FormFaults.{IsFaultAmong}
-use Rattle.cert_format.specs.StrongForms.{spelled, form_of}
+use Rattle.cert_format.specs.StrongForms.{first_words, spelled, form_of}
 use Rattle.cert_format.specs.StrongWords.{header_words, by_words, ring_words, strong_words, IsSpelledBy, IsSpelledStrong}
 use Rattle.cert_format.specs.declared.strong_word.StrongWord.{StrongWord}
 use Rattle.cert_format.specs.declared.strong_word.StrongWord.TheVariants as word
@@ -24,35 +18,29 @@ use Rattle.cert_format.specs.declared.strong_cert.StrongLine.{StrongLine}
 use Rattle.cert_format.specs.declared.strong_read.StrongTextLine.{StrongTextLine}
 use Rattle.cert_format.specs.declared.strong_read.StrongTextLine.TheVariants as text
 
--- how a line is spelled, by what it says
-abbrev pub AreStrongWordsOf : StrongTextLine → List (List ℕ) → Type 0
-AreStrongWordsOf text.Blank words = are_passed_over words ≡ true
-AreStrongWordsOf text.Header words = words ≡ header_words
-AreStrongWordsOf (text.By line) words = (words ≡ by_words line) × IsSpelledBy line
-AreStrongWordsOf (text.Ring point) words = (words ≡ ring_words point) × IsTrue (is_name point)
-AreStrongWordsOf text.End words = words ≡ end_words
+-- the words of a line, by what it says
+abbrev pub text_words : StrongTextLine → List (List ℕ)
+text_words text.Blank = []
+text_words text.Header = header_words
+text_words (text.By line) = by_words line
+text_words (text.Ring point) = ring_words point
+text_words text.End = end_words
 
--- a line says this
-abbrev pub IsStrongLine : StrongTextLine → List ℕ → Type 0
-IsStrongLine said line = AreStrongWordsOf said (words line)
+-- what a line says can be spelled
+abbrev pub IsSpelledText : StrongTextLine → Type 0
+IsSpelledText text.Blank = ⊥
+IsSpelledText (text.By line) = IsSpelledBy line
+IsSpelledText (text.Ring point) = IsTrue (is_name point)
+IsSpelledText others = Unit {0}
+
+-- how strong certificates are spelled
+abbrev pub strong_spelling : Spelling StrongTextLine StrongCert
+strong_spelling = record { words_of = text_words; IsSpelled = IsSpelledText; value_words = strong_words; end_words = end_words; IsSpelledValue = IsSpelledStrong }
 
 -- The lines declare a strong certificate, and these lines come after it: the lines up to the `end` line are spelled as the certificate is, with blank lines
 -- between.
-pub record DeclareStrong (all : List (List ℕ)) (cert : StrongCert) (after : List (List ℕ)) : Type 0 where
-  pub prefix : List (List ℕ)
-  pub last : List ℕ
-  pub whole : all ≡ prefix ++ last ∷ after
-  pub said : filled_words (prefix ++ last ∷ []) ≡ strong_words cert
-  pub ends : IsStrongLine text.End last
-  pub spelled : IsSpelledStrong cert
-
--- the text of a strong certificate, with anything after it
-abbrev pub IsStrongText : List ℕ → StrongCert → Type 0
-IsStrongText bytes cert = (after : List (List ℕ)) × DeclareStrong (lines bytes) cert after
-
--- lines that can be continued to a strong certificate
-abbrev pub CanBecomeStrong : List (List ℕ) → Type 0
-CanBecomeStrong prefix = (more : List (List ℕ)) × (cert : StrongCert) × (after : List (List ℕ)) × DeclareStrong (prefix ++ more) cert after
+abbrev pub DeclareStrong : List (List ℕ) → StrongCert → List (List ℕ) → Type 0
+DeclareStrong = DeclareSpelled strong_spelling
 
 -- which first words may come in a section
 abbrev pub admits : StrongSection → StrongWord → Bool
@@ -66,6 +54,16 @@ admits section.Ring word.Ring = true
 admits section.Ring word.End = true
 admits others first = false
 
+-- in the first section the header must come
+abbrev pub opens : StrongSection → Bool
+opens section.Header = true
+opens others = false
+
+-- a strong certificate ends with the line `end`
+abbrev pub is_last : StrongTextLine → Bool
+is_last text.End = true
+is_last others = false
+
 -- what was read of a strong certificate: the section that is reached, and so far the lines of bounds and the points of a ring
 pub record StrongProgress : Type 0 where
   pub section : StrongSection
@@ -76,68 +74,50 @@ pub record StrongProgress : Type 0 where
 abbrev pub initial : StrongProgress
 initial = record { section = section.Header; by = []; ring = [] }
 
+-- what was read, with one line more
+abbrev pub advanced : StrongProgress → StrongTextLine → StrongProgress
+advanced read text.Blank = read
+advanced read text.Header = record read { section = section.Lines }
+advanced read (text.By line) = record read { section = section.By; by = read.by ++ line ∷ [] }
+advanced read (text.Ring point) = record read { section = section.Ring; ring = read.ring ++ point ∷ [] }
+advanced read text.End = read
+
 -- the certificate of which all was read
 abbrev pub strong_of : StrongProgress → StrongCert
 strong_of read = record { by = read.by; ring = read.ring }
 
--- how the lines are spelled with which a section is reached
-abbrev pub prefix_words : StrongSection → StrongProgress → List (List (List ℕ))
-prefix_words section.Header read = []
-prefix_words section.Lines read = header_words ∷ []
-prefix_words section.By read = header_words ∷ map by_words read.by
-prefix_words section.Ring read = header_words ∷ map ring_words read.ring
+-- the text of a strong certificate as a text of lines in sections
+abbrev pub strong_lines : SectionedText StrongSection StrongWord StrongTextLine StrongProgress StrongCert
+strong_lines = record {
+  first_words = first_words;
+  spelled = spelled;
+  admits = admits;
+  form_of = form_of;
+  header = version_one text.Header;
+  IsHeader = λ line. line ≡ header_words;
+  opens = opens;
+  says = Spell strong_spelling;
+  blank = text.Blank;
+  is_last = is_last;
+  initial = initial;
+  section = λ read. read.section;
+  advanced = advanced;
+  value = strong_of;
+  declares = DeclareStrong;
+}
 
--- what may have been read when a section is reached
-abbrev pub IsSectionReached : StrongSection → StrongProgress → Type 0
-IsSectionReached section.Header read = (read.by ≡ []) × (read.ring ≡ [])
-IsSectionReached section.Lines read = (read.by ≡ []) × (read.ring ≡ [])
-IsSectionReached section.By read = (read.by ≢ []) × (read.ring ≡ [])
-IsSectionReached section.Ring read = (read.by ≡ []) × (read.ring ≢ [])
+-- the text of a strong certificate, with anything after it
+abbrev pub IsStrongText : List ℕ → StrongCert → Type 0
+IsStrongText = AreTextOf strong_lines
 
--- what was read can be spelled
-abbrev pub AreSpelled : StrongProgress → Type 0
-AreSpelled read = All IsSpelledBy read.by × All (λ point. IsTrue (is_name point)) read.ring
+-- the prefix of a strong certificate: its lines lead to what is read of them
+abbrev pub IsStrongPrefix : List (List ℕ) → StrongProgress → Type 0
+IsStrongPrefix = IsPrefixOf strong_lines
 
--- the prefix of a strong certificate: its lines are spelled as what was read of it, with blank lines between
-pub record IsStrongPrefix (prefix : List (List ℕ)) (read : StrongProgress) : Type 0 where
-  pub said : filled_words prefix ≡ prefix_words read.section read
-  pub reached : IsSectionReached read.section read
-  pub spelled : AreSpelled read
+-- the first fault of lines that are no strong certificate
+abbrev pub IsFirstStrongFault : List (List ℕ) → FormatFault → Type 0
+IsFirstStrongFault = IsFirstFaultOf strong_lines
 
--- the fault of a line in a section
-abbrev pub IsFaultIn : StrongSection → List (List ℕ) → FormatKind → Type 0
-IsFaultIn section.Header line kind = (are_passed_over line ≡ false) × (line ≢ header_words) × (kind ≡ NoHeader)
-IsFaultIn others line kind = IsFaultAmong spelled form_of (admits others) line kind
-
--- the fault of a text that ends in a section
-abbrev pub missing : StrongSection → FormatKind
-missing section.Header = NoHeader
-missing others = NoEnd
-
--- the fault of the lines that are left when a section is reached
-abbrev pub IsFaultOfRest : StrongSection → List (List ℕ) → FormatKind → Type 0
-IsFaultOfRest section [] kind = kind ≡ missing section
-IsFaultOfRest section (line ∷ others) kind = IsFaultIn section (words line) kind
-
--- the first of the lines that are left, or that there is none, excludes a strong certificate
-abbrev pub ExcludesStrong : List (List ℕ) → List (List ℕ) → Type 0
-ExcludesStrong prefix [] = (cert : StrongCert) (after : List (List ℕ)) → DeclareStrong prefix cert after → ⊥
-ExcludesStrong prefix (line ∷ others) = CanBecomeStrong (prefix ++ line ∷ []) → ⊥
-
--- The first fault of lines: those before it can be continued to a strong certificate, with its line they cannot, and its kind
--- is how that line first departs from what may come there, or that the text ends.
-pub record IsFirstStrongFault (all : List (List ℕ)) (fault : FormatFault) : Type 0 where
-  pub prefix : List (List ℕ)
-  pub rest : List (List ℕ)
-  pub read : StrongProgress
-  pub whole : all ≡ prefix ++ rest
-  pub place : fault.line ≡ length prefix + 1
-  pub possible : CanBecomeStrong prefix
-  pub refused : ExcludesStrong prefix rest
-  pub reached : IsStrongPrefix prefix read
-  pub departs : IsFaultOfRest read.section rest fault.kind
-
--- the fault of an answer is the first one of a text
-abbrev pub StrongFaultIsFirst : List ℕ → TextFault → Type 0
-StrongFaultIsFirst bytes (whole.Format fault) = IsFirstStrongFault (lines bytes) fault
-StrongFaultIsFirst bytes whole.OutOfMemory = Unit {0}
+-- what is read of a text, or its first fault
+unfoldable pub strong_text : List ℕ → Result StrongCert FormatFault
+strong_text bytes = read_text strong_lines bytes

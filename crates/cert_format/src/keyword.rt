@@ -4,7 +4,7 @@ ghost use Rattle.std.specs.Prelude.{◌≡◌};
 
 /// The first word of a line of a certificate.
 #[derive(Clone, Copy, PartialEq, Eq)]
-pub(crate) enum Keyword {
+pub enum Keyword {
     Certificate,
     Refutation,
     Table,

@@ -13,7 +13,6 @@ mod print;
 mod read;
 mod reader;
 mod section;
-mod section_line;
 mod strong_cert;
 mod strong_print;
 mod strong_read;

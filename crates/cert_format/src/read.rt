@@ -7,8 +7,10 @@ ghost use Rattle.net_model.specs.Numbers.{natural_of, integer_of};
 ghost use Rattle.texts.specs.Words.{words};
 ghost use Rattle.cert_format.specs.Kind.{has_label};
 ghost use Rattle.cert_format.specs.declared.read.CertText.{CertText};
+ghost use Rattle.sectioned_texts.specs.Reading.{line_after};
 ghost use Rattle.cert_format.specs.CertificateGrammar.{IsCertificateFaultAlone, IsCertificateLine};
-ghost use Rattle.cert_format.specs.CertificateLines.{cert_text, line_by_word, header_line};
+ghost use Rattle.cert_format.specs.CertificateGrammar.{certificate_lines};
+ghost use Rattle.cert_format.specs.CertificateFormat.{cert_text};
 ghost use Rattle.cert_format.specs.Limits.{most_written_weight, most_line_number};
 ghost use Rattle.cert_format.specs.LineForms.{edge_places, labelled_places, unlabelled, labelled};
 ghost use Rattle.cert_format.specs.LineForms.{lone_form, walk_form, order_form, edge_form};
@@ -21,6 +23,7 @@ use crate::kind::LineKind;
 use crate::limits::{MOST_LINE_NUMBER, MOST_WRITTEN_WEIGHT};
 use crate::line::CertLine;
 use net_model::{FormatKind, Name, Weight, WordFault, text};
+use sectioned_texts::version_one;
 
 /// A line of a certificate.
 #[derive(Clone, Copy, Debug, PartialEq, Eq)]
@@ -67,7 +70,7 @@ fn read_alone(line: &[u8]) -> Result<CertText, WordFault>
 }
 
 /// Reads one line of a certificate by its words.
-#[tactic(auto, unfolding(crate::specs::CertificateLines::cert_text))]
+#[tactic(auto, unfolding(crate::specs::CertificateFormat::cert_text))]
 pub(crate) fn cert_text(line: &[u8]) -> Result<CertText, FormatKind>
     ensures { result ≡ cert_text (words line.now) }
 {
@@ -82,10 +85,10 @@ pub(crate) fn cert_text(line: &[u8]) -> Result<CertText, FormatKind>
 
 /// The words after the first word of a line.
 pub(crate) fn line_of(keyword: Keyword, rest: &[u8]) -> Result<CertText, FormatKind>
-    ensures { result ≡ line_by_word keyword (words rest.now) }
+    ensures { result ≡ line_after certificate_lines keyword (words rest.now) }
 {
     match keyword {
-        Keyword::Certificate => header_line(rest),
+        Keyword::Certificate => version_one(CertText::Header, rest),
         Keyword::Refutation => lone_word(CertText::Refutation, rest),
         Keyword::Table => lone_word(CertText::Table, rest),
         Keyword::Bound => bound_line(rest),
@@ -101,20 +104,6 @@ pub(crate) fn line_of(keyword: Keyword, rest: &[u8]) -> Result<CertText, FormatK
         Keyword::Upper => upper_line(rest),
         Keyword::End => lone_word(CertText::End, rest),
     }
-}
-
-/// The words after `certificate`.
-#[tactic(auto, using(crate::proofs::HeaderLemmas::header_of, crate::proofs::HeaderLemmas::no_header))]
-fn header_line(rest: &[u8]) -> Result<CertText, FormatKind>
-    ensures { result ≡ header_line (words rest.now) }
-{
-    let Ok(version) = text::one(rest) else {
-        return Err(FormatKind::UnknownWord);
-    };
-    if version == b"1".as_slice() {
-        return Ok(CertText::Header);
-    }
-    Err(FormatKind::UnknownWord)
 }
 
 /// What stands after a word that is a line by itself.

@@ -4,11 +4,12 @@ ghost use Rattle.std.specs.Prelude.{◌≡◌, ◌++◌, ◌∷◌, [], OnOk, On
 
 use crate::certificate::Certificate;
 use crate::entry::Entry;
+use crate::keyword::Keyword;
 use crate::line::CertLine;
-use crate::read::CertText;
+use crate::read::{CertText, line_of};
 use crate::section::Section;
-use crate::section_line::line_in;
 use net_model::{FormatKind, Items, Name, WordFault};
+use sectioned_texts::SectionReader;
 use std::alloc::{AllocError, Global};
 use std::marker::Model;
 
@@ -47,11 +48,11 @@ impl Model for CertReader {
 impl CertReader {
     ghost use Rattle.std.specs.Prelude.{◌≡◌, ℕ, List, [], IfOk, OnOk, OnErr};
     ghost use Rattle.texts.specs.Words.{words};
+    ghost use Rattle.sectioned_texts.specs.SectionedTexts.{LineBrings, missing_in, fault_after};
+    ghost use Rattle.sectioned_texts.specs.Reading.{SaysLine, line_in};
     ghost use Rattle.cert_format.specs.CertificateGrammar.{IsFirstCertificateFault, IsPrefix};
-    ghost use Rattle.cert_format.specs.CertificateGrammar.{initial, certificate_of, missing};
-    ghost use Rattle.cert_format.specs.CertificateFormat.{CertificateLineBrings};
-    ghost use Rattle.cert_format.specs.CertificateFormat.{SaysCertificateLine, advanced};
-    ghost use Rattle.cert_format.specs.CertificateFormat.{fault_after, line_in};
+    ghost use Rattle.cert_format.specs.CertificateGrammar.{initial, advanced, certificate_of};
+    ghost use Rattle.cert_format.specs.CertificateGrammar.{certificate_lines};
 
     /// A reader that has read no line. It takes no memory.
     pub fn new(alloc: Global) -> CertReader
@@ -81,57 +82,23 @@ impl CertReader {
     /// neither. The caller reads nothing more after `End`.
     pub fn read_line(&mut self, line: &[u8]) -> Result<CertText, WordFault>
         ensures brings { (prefix : List (List ℕ)) → IsPrefix prefix self.old
-            → CertificateLineBrings prefix line.now result self.new }
-        ensures said { SaysCertificateLine result (line_in self.old.section (words line.now)) }
+            → LineBrings certificate_lines prefix line.now result self.new }
+        ensures said { SaysLine result
+            (line_in certificate_lines self.old.section (words line.now)) }
         ensures kept { IfOk result (λ said. self.new ≡ advanced self.old said) }
         ensures refused { OnErr result (self.new ≡ self.old) }
     {
-        self.take_line(line)
-    }
-
-    /// Reads the next line in its place and keeps what it says.
-    fn take_line(&mut self, line: &[u8]) -> Result<CertText, WordFault>
-        ensures said { SaysCertificateLine result (line_in self.old.section (words line.now)) }
-        ensures kept { IfOk result (λ said. self.new ≡ advanced self.old said) }
-        ensures refused { OnErr result (self.new ≡ self.old) }
-    {
-        let said = line_in(self.section, line)?;
-        self.keep(&said)?;
-        Ok(said)
+        sectioned_texts::read_line(self, line)
     }
 
     /// The fault if the lines end here: `NoHeader` before the header, else `NoEnd`, in the line
     /// after them. After the prefix of a certificate that is the first fault of its lines.
     pub fn missing(&self) -> FormatKind
-        ensures missing { result ≡ missing self.now.section }
+        ensures missing { result ≡ missing_in certificate_lines self.now.section }
         ensures fault { (prefix : List (List ℕ)) → IsPrefix prefix self.now
             → IsFirstCertificateFault prefix (fault_after prefix result) }
     {
-        self.section().missing()
-    }
-
-    /// Keeps what a line says.
-    fn keep(&mut self, said: &CertText) -> Result<(), AllocError>
-        ensures kept { OnOk result (self.new ≡ advanced self.old said.now) }
-        ensures refused { OnErr result (self.new ≡ self.old) }
-    {
-        match said {
-            CertText::Blank | CertText::End => {}
-            CertText::Header => self.section = Section::Kind,
-            CertText::Refutation => self.section = Section::Rules,
-            CertText::Table => self.section = Section::Order,
-            CertText::Line(line) => push(&mut self.lines, *line)?,
-            CertText::Walk(number) => {
-                self.walk.push(*number)?;
-                self.section = Section::Walk;
-            }
-            CertText::Order(point) => self.order.push(*point)?,
-            CertText::Entry(entry) => {
-                push_entry(&mut self.entries, *entry)?;
-                self.section = Section::Entries;
-            }
-        }
-        Ok(())
+        sectioned_texts::missing(self)
     }
 
     /// The certificate of all lines that were read.
@@ -155,6 +122,72 @@ impl CertReader {
                 walk: Items::new(walk),
             },
         }
+    }
+}
+
+impl SectionReader for CertReader {
+    type Section = Section;
+
+    type Word = Keyword;
+
+    type Line = CertText;
+
+    type Value = Certificate;
+
+    ghost use Rattle.cert_format.specs.CertificateGrammar.{certificate_lines};
+
+    ghost text = { certificate_lines };
+
+    fn section(&self) -> Section {
+        self.section
+    }
+
+    fn first_word(word: &[u8]) -> Option<Keyword> {
+        Keyword::of(word)
+    }
+
+    fn admits(section: Section, first: Keyword) -> bool {
+        section.admits(first)
+    }
+
+    fn opens(section: Section) -> bool {
+        section == Section::Header
+    }
+
+    fn line_after(first: Keyword, rest: &[u8]) -> Result<CertText, FormatKind> {
+        line_of(first, rest)
+    }
+
+    fn blank() -> CertText {
+        CertText::Blank
+    }
+
+    fn is_last(line: &CertText) -> bool {
+        *line == CertText::End
+    }
+
+    fn keep(&mut self, line: &CertText) -> Result<(), AllocError> {
+        match line {
+            CertText::Blank | CertText::End => {}
+            CertText::Header => self.section = Section::Kind,
+            CertText::Refutation => self.section = Section::Rules,
+            CertText::Table => self.section = Section::Order,
+            CertText::Line(rule) => push(&mut self.lines, *rule)?,
+            CertText::Walk(number) => {
+                self.walk.push(*number)?;
+                self.section = Section::Walk;
+            }
+            CertText::Order(point) => self.order.push(*point)?,
+            CertText::Entry(entry) => {
+                push_entry(&mut self.entries, *entry)?;
+                self.section = Section::Entries;
+            }
+        }
+        Ok(())
+    }
+
+    fn into_value(self) -> Certificate {
+        self.into_certificate()
     }
 }
 

@@ -1,7 +1,6 @@
 //! The section of a certificate: what may come next in its text.
 
 use crate::keyword::Keyword;
-use net_model::FormatKind;
 
 /// What may come next in the text of a certificate.
 #[derive(Clone, Copy, Debug, PartialEq, Eq)]
@@ -22,7 +21,7 @@ pub enum Section {
 
 impl Section {
     ghost use Rattle.std.specs.Prelude.{◌≡◌};
-    ghost use Rattle.cert_format.specs.CertificateGrammar.{admits, missing};
+    ghost use Rattle.cert_format.specs.CertificateGrammar.{admits};
 
     /// Whether a line that begins with this word may come next.
     pub(crate) fn admits(self, first: Keyword) -> bool
@@ -46,16 +45,6 @@ impl Section {
                 Keyword::Order | Keyword::Edge | Keyword::Upper | Keyword::End
             ),
             Section::Entries => matches!(first, Keyword::Edge | Keyword::Upper | Keyword::End),
-        }
-    }
-
-    /// The fault of a text that ends here: `NoHeader` before the header, else `NoEnd`.
-    pub(crate) fn missing(self) -> FormatKind
-        ensures { result ≡ missing self }
-    {
-        match self {
-            Section::Header => FormatKind::NoHeader,
-            _ => FormatKind::NoEnd,
         }
     }
 }

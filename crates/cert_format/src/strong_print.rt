@@ -7,7 +7,7 @@ ghost use Rattle.texts.specs.PrintedLines.{printed_line};
 ghost use Rattle.cert_format.specs.StrongWords.{by_words, ring_words, printed_strong};
 ghost use Rattle.cert_format.specs.StrongWords.{HasStrongWeight, HasStrongWeights, IsSpelledBy};
 ghost use Rattle.cert_format.specs.StrongWords.{OfOneKind};
-ghost use Rattle.cert_format.specs.StrongReading.{strong_text};
+ghost use Rattle.cert_format.specs.StrongGrammar.{strong_text};
 
 use crate::strong_cert::{StrongCert, StrongLine};
 use net_model::Name;

@@ -1,9 +1,11 @@
 //! The lines of a strong certificate, one after another.
 
 use crate::strong_cert::{StrongCert, StrongLine};
-use crate::strong_read::{StrongTextLine, line_in};
+use crate::strong_read::{StrongTextLine, line_of};
 use crate::strong_section::StrongSection;
+use crate::strong_word::StrongWord;
 use net_model::{FormatKind, Items, Name, WordFault};
+use sectioned_texts::SectionReader;
 use std::alloc::{AllocError, Global};
 use std::marker::Model;
 
@@ -28,11 +30,10 @@ impl Model for StrongReader {
 impl StrongReader {
     ghost use Rattle.std.specs.Prelude.{◌≡◌, ℕ, List, [], IfOk, OnOk, OnErr};
     ghost use Rattle.texts.specs.Words.{words};
+    ghost use Rattle.sectioned_texts.specs.SectionedTexts.{LineBrings, missing_in, fault_after};
+    ghost use Rattle.sectioned_texts.specs.Reading.{SaysLine, line_in};
     ghost use Rattle.cert_format.specs.StrongGrammar.{IsFirstStrongFault, IsStrongPrefix, initial};
-    ghost use Rattle.cert_format.specs.StrongGrammar.{strong_of, missing};
-    ghost use Rattle.cert_format.specs.StrongLines.{line_in};
-    ghost use Rattle.cert_format.specs.CertificateFormat.{fault_after};
-    ghost use Rattle.cert_format.specs.StrongReading.{StrongBrings, SaysStrongLine, advanced};
+    ghost use Rattle.cert_format.specs.StrongGrammar.{advanced, strong_of, strong_lines};
 
     /// A reader that has read no line. It takes no memory.
     pub fn new(alloc: Global) -> StrongReader
@@ -60,53 +61,22 @@ impl StrongReader {
     /// The caller reads nothing more after `End`.
     pub fn read_line(&mut self, line: &[u8]) -> Result<StrongTextLine, WordFault>
         ensures brings { (prefix : List (List ℕ)) → IsStrongPrefix prefix self.old
-            → StrongBrings prefix line.now result self.new }
-        ensures said { SaysStrongLine result (line_in self.old.section (words line.now)) }
+            → LineBrings strong_lines prefix line.now result self.new }
+        ensures said { SaysLine result (line_in strong_lines self.old.section (words line.now)) }
         ensures kept { IfOk result (λ said. self.new ≡ advanced self.old said) }
         ensures refused { OnErr result (self.new ≡ self.old) }
     {
-        self.take_line(line)
-    }
-
-    /// Reads the next line in its place and keeps what it says.
-    fn take_line(&mut self, line: &[u8]) -> Result<StrongTextLine, WordFault>
-        ensures said { SaysStrongLine result (line_in self.old.section (words line.now)) }
-        ensures kept { IfOk result (λ said. self.new ≡ advanced self.old said) }
-        ensures refused { OnErr result (self.new ≡ self.old) }
-    {
-        let said = line_in(self.section, line)?;
-        self.keep(&said)?;
-        Ok(said)
+        sectioned_texts::read_line(self, line)
     }
 
     /// The fault if the lines end here: `NoHeader` before the header, else `NoEnd`, in the line
     /// after them. After the prefix of a strong certificate that is the first fault of its lines.
     pub fn missing(&self) -> FormatKind
-        ensures missing { result ≡ missing self.now.section }
+        ensures missing { result ≡ missing_in strong_lines self.now.section }
         ensures fault { (prefix : List (List ℕ)) → IsStrongPrefix prefix self.now
             → IsFirstStrongFault prefix (fault_after prefix result) }
     {
-        self.section().missing()
-    }
-
-    /// Keeps what a line says.
-    fn keep(&mut self, said: &StrongTextLine) -> Result<(), AllocError>
-        ensures kept { OnOk result (self.new ≡ advanced self.old said.now) }
-        ensures refused { OnErr result (self.new ≡ self.old) }
-    {
-        match said {
-            StrongTextLine::Blank | StrongTextLine::End => {}
-            StrongTextLine::Header => self.section = StrongSection::Lines,
-            StrongTextLine::By(line) => {
-                self.by.push(*line)?;
-                self.section = StrongSection::By;
-            }
-            StrongTextLine::Ring(point) => {
-                self.ring.push(*point)?;
-                self.section = StrongSection::Ring;
-            }
-        }
-        Ok(())
+        sectioned_texts::missing(self)
     }
 
     /// The certificate of all lines that were read.
@@ -117,5 +87,67 @@ impl StrongReader {
             by: Items::new(self.by),
             ring: Items::new(self.ring),
         }
+    }
+}
+
+impl SectionReader for StrongReader {
+    type Section = StrongSection;
+
+    type Word = StrongWord;
+
+    type Line = StrongTextLine;
+
+    type Value = StrongCert;
+
+    ghost use Rattle.cert_format.specs.StrongGrammar.{strong_lines};
+
+    ghost text = { strong_lines };
+
+    fn section(&self) -> StrongSection {
+        self.section
+    }
+
+    fn first_word(word: &[u8]) -> Option<StrongWord> {
+        StrongWord::of(word)
+    }
+
+    fn admits(section: StrongSection, first: StrongWord) -> bool {
+        section.admits(first)
+    }
+
+    fn opens(section: StrongSection) -> bool {
+        section == StrongSection::Header
+    }
+
+    fn line_after(first: StrongWord, rest: &[u8]) -> Result<StrongTextLine, FormatKind> {
+        line_of(first, rest)
+    }
+
+    fn blank() -> StrongTextLine {
+        StrongTextLine::Blank
+    }
+
+    fn is_last(line: &StrongTextLine) -> bool {
+        *line == StrongTextLine::End
+    }
+
+    fn keep(&mut self, line: &StrongTextLine) -> Result<(), AllocError> {
+        match line {
+            StrongTextLine::Blank | StrongTextLine::End => {}
+            StrongTextLine::Header => self.section = StrongSection::Lines,
+            StrongTextLine::By(edge) => {
+                self.by.push(*edge)?;
+                self.section = StrongSection::By;
+            }
+            StrongTextLine::Ring(point) => {
+                self.ring.push(*point)?;
+                self.section = StrongSection::Ring;
+            }
+        }
+        Ok(())
+    }
+
+    fn into_value(self) -> StrongCert {
+        self.into_certificate()
     }
 }

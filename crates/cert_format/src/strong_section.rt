@@ -1,7 +1,6 @@
 //! The section of a strong certificate: what may come next in its text.
 
 use crate::strong_word::StrongWord;
-use net_model::FormatKind;
 
 /// What may come next in the text of a strong certificate.
 #[derive(Clone, Copy, Debug, PartialEq, Eq)]
@@ -18,7 +17,7 @@ pub enum StrongSection {
 
 impl StrongSection {
     ghost use Rattle.std.specs.Prelude.{◌≡◌};
-    ghost use Rattle.cert_format.specs.StrongGrammar.{admits, missing};
+    ghost use Rattle.cert_format.specs.StrongGrammar.{admits};
 
     /// Whether a line that begins with this word may come next.
     pub(crate) fn admits(self, first: StrongWord) -> bool
@@ -29,16 +28,6 @@ impl StrongSection {
             StrongSection::Lines => first != StrongWord::Strong,
             StrongSection::By => matches!(first, StrongWord::By | StrongWord::End),
             StrongSection::Ring => matches!(first, StrongWord::Ring | StrongWord::End),
-        }
-    }
-
-    /// The fault of a text that ends here: `NoHeader` before the header, else `NoEnd`.
-    pub(crate) fn missing(self) -> FormatKind
-        ensures { result ≡ missing self }
-    {
-        match self {
-            StrongSection::Header => FormatKind::NoHeader,
-            _ => FormatKind::NoEnd,
         }
     }
 }

@@ -4,7 +4,7 @@ ghost use Rattle.std.specs.Prelude.{◌≡◌};
 
 /// The first word of a line of a strong certificate.
 #[derive(Clone, Copy, PartialEq, Eq)]
-pub(crate) enum StrongWord {
+pub enum StrongWord {
     Strong,
     By,
     Ring,

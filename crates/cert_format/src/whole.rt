@@ -3,16 +3,18 @@
 ghost use Rattle.std.specs.Prelude.{◌≡◌, ◌<◌, ◌^◌, length, Err, IfErr, IfOk, Ok};
 ghost use Rattle.texts.specs.Lines.{lines};
 ghost use Rattle.net_model.specs.declared.format.FormatFault.{FormatFault};
-ghost use Rattle.cert_format.specs.CertificateFormat.{certificate_text, SaysText, fault_at_line};
+ghost use Rattle.sectioned_texts.specs.SectionedTexts.{HasFirstFault};
+ghost use Rattle.sectioned_texts.specs.Reading.{SaysText};
+ghost use Rattle.cert_format.specs.CertificateFormat.{certificate_text};
 ghost use Rattle.cert_format.specs.CertificateWords.{HasWeights};
 ghost use Rattle.cert_format.specs.CertificateGrammar.{IsCertificateText, IsFirstCertificateFault};
-ghost use Rattle.cert_format.specs.CertificateGrammar.{FaultIsFirst};
+ghost use Rattle.cert_format.specs.CertificateGrammar.{certificate_lines};
 ghost use Rattle.cert_format.specs.declared.certificate.Certificate.{Certificate};
 
 use crate::certificate::Certificate;
-use crate::read::CertText;
 use crate::reader::CertReader;
-use net_model::{FormatFault, TextFault, WordFault, text};
+use net_model::TextFault;
+use sectioned_texts::read_text;
 use std::alloc::Global;
 
 /// Reads the text of a certificate: the header `certificate 1`, the line `refutation`, rule lines,
@@ -23,48 +25,17 @@ use std::alloc::Global;
 /// `read_cert_line`. If the text ends before its `end` line, the fault is `NoEnd`, or `NoHeader`
 /// before the header, at the number after the last line. `OutOfMemory` comes only for want of
 /// memory. There are fewer than 2^31 bytes.
+#[tactic(auto, unfolding(crate::specs::CertificateFormat::certificate_text))]
 pub fn read_certificate(alloc: Global, bytes: &[u8]) -> Result<Certificate, TextFault>
     requires { length bytes.now < 2 ^ 31 }
     ensures text { SaysText result (certificate_text bytes.now) }
     ensures in_grammar { IfOk result (λ certificate. IsCertificateText bytes.now certificate) }
-    ensures first_fault { IfErr result (FaultIsFirst bytes.now) }
+    ensures first_fault { IfErr result (HasFirstFault certificate_lines bytes.now) }
     ensures weights { IfOk result (λ certificate. HasWeights certificate) }
     ensures every_text { (certificate : Certificate) → IsCertificateText bytes.now certificate
         → SaysText result (Ok certificate) }
     ensures every_fault { (fault : FormatFault) → IsFirstCertificateFault (lines bytes.now) fault
         → SaysText result (Err fault) }
 {
-    read_lines(alloc, bytes)
-}
-
-/// Reads the lines of a text, one after another.
-#[tactic(auto, unfolding(crate::specs::CertificateFormat::certificate_text))]
-fn read_lines(alloc: Global, bytes: &[u8]) -> Result<Certificate, TextFault>
-    requires { length bytes.now < 2 ^ 31 }
-    ensures { SaysText result (certificate_text bytes.now) }
-{
-    let mut reader = CertReader::new(alloc);
-    let mut rest = bytes;
-    let mut number: u32 = 1;
-    while let Some((line, others)) = texts::next_line(rest) {
-        match reader.read_line(line) {
-            Ok(CertText::End) => return Ok(reader.into_certificate()),
-            Ok(_) => {}
-            Err(fault) => return Err(at_line(number, fault)),
-        }
-        number += 1;
-        rest = others;
-    }
-    let kind = reader.missing();
-    Err(FormatFault { line: number, kind }.into())
-}
-
-/// The fault of a text at a line.
-pub(crate) fn at_line(number: u32, fault: WordFault) -> TextFault
-    ensures { result ≡ fault_at_line number fault }
-{
-    match fault {
-        WordFault::Kind(kind) => TextFault::Format(FormatFault { line: number, kind }),
-        WordFault::OutOfMemory => TextFault::OutOfMemory,
-    }
+    read_text(CertReader::new(alloc), bytes)
 }

@@ -2,8 +2,9 @@
 use Rattle.std.specs.Prelude.{ℕ, Result, Ok, Err}
 use Rattle.texts.specs.Words.{words}
 use Rattle.net_model.specs.declared.format.FormatKind.{FormatKind}
-use Rattle.cert_format.specs.CertificateGrammar.{initial, certificate_of, missing}
-use Rattle.cert_format.specs.CertificateFormat.{line_in, advanced}
+use Rattle.sectioned_texts.specs.SectionedTexts.{missing_in}
+use Rattle.sectioned_texts.specs.Reading.{line_in}
+use Rattle.cert_format.specs.CertificateGrammar.{initial, advanced, certificate_of, certificate_lines}
 use Rattle.cert_format.specs.declared.certificate.Certificate.{Certificate}
 use Rattle.cert_format.specs.declared.read.CertText.{CertText}
 use Rattle.cert_format.specs.declared.read.CertText.TheVariants as text
@@ -30,6 +31,6 @@ certificate_step certificate number (Err kind) = Refused (Format number kind)
 abbrev pub certificate_reader : Reader CertificateInput Certificate Fault
 certificate_reader = record {
   longest = λ certificate. most_line;
-  reads = λ certificate number bytes. certificate_step certificate number (line_in certificate.reader.section (words bytes));
-  stops = λ certificate number stop. stop_fault number stop (missing certificate.reader.section);
+  reads = λ certificate number bytes. certificate_step certificate number (line_in certificate_lines certificate.reader.section (words bytes));
+  stops = λ certificate number stop. stop_fault number stop (missing_in certificate_lines certificate.reader.section);
 }

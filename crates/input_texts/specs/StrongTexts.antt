@@ -2,9 +2,9 @@
 use Rattle.std.specs.Prelude.{ℕ, Result, Ok, Err}
 use Rattle.texts.specs.Words.{words}
 use Rattle.net_model.specs.declared.format.FormatKind.{FormatKind}
-use Rattle.cert_format.specs.StrongGrammar.{initial, strong_of, missing}
-use Rattle.cert_format.specs.StrongLines.{line_in}
-use Rattle.cert_format.specs.StrongReading.{advanced}
+use Rattle.sectioned_texts.specs.SectionedTexts.{missing_in}
+use Rattle.sectioned_texts.specs.Reading.{line_in}
+use Rattle.cert_format.specs.StrongGrammar.{initial, advanced, strong_of, strong_lines}
 use Rattle.cert_format.specs.declared.strong_cert.StrongCert.{StrongCert}
 use Rattle.cert_format.specs.declared.strong_read.StrongTextLine.{StrongTextLine}
 use Rattle.cert_format.specs.declared.strong_read.StrongTextLine.TheVariants as text
@@ -31,6 +31,6 @@ strong_step certificate number (Err kind) = Refused (Format number kind)
 abbrev pub strong_reader : Reader StrongInput StrongCert Fault
 strong_reader = record {
   longest = λ certificate. most_line;
-  reads = λ certificate number bytes. strong_step certificate number (line_in certificate.reader.section (words bytes));
-  stops = λ certificate number stop. stop_fault number stop (missing certificate.reader.section);
+  reads = λ certificate number bytes. strong_step certificate number (line_in strong_lines certificate.reader.section (words bytes));
+  stops = λ certificate number stop. stop_fault number stop (missing_in strong_lines certificate.reader.section);
 }

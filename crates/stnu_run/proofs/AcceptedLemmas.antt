@@ -1,5 +1,5 @@
 -- A printed certificate that the judge accepts is accepted by `judge`, given the plan of the input before it.
-use Rattle.std.proofs.Common.{◌≡◌, ℕ, ◌≤◌, List, ◌∷◌, [], ◌++◌, length, Ok, refl, sym, ap, ◌∙◌, subst, arith, append_assoc}
+use Rattle.std.proofs.Common.{◌≡◌, ℕ, ◌≤◌, List, ◌∷◌, [], ◌++◌, length, refl, sym, ap, ◌∙◌, subst, arith, append_assoc}
 use Rattle.std.specs.List.{flat_map}
 use Rattle.std.proofs.lemmas.List.{append_cancel_right, length-append}
 use Rattle.texts.specs.Lines.{InputLine, input_lines, lines}
@@ -12,10 +12,8 @@ use Rattle.cert_format.specs.StrongGrammar.{DeclareStrong}
 use Rattle.cert_format.specs.StrongWords.{OfOneKind, printed_strong}
 use Rattle.cert_format.specs.declared.certificate.Certificate.{Certificate}
 use Rattle.cert_format.specs.declared.strong_cert.StrongCert.{StrongCert}
-use Rattle.cert_format.proofs.ReadLineLemmas.{text_is_read}
-use Rattle.cert_format.proofs.RoundTripLemmas.{printed_read}
-use Rattle.cert_format.proofs.StrongPrintLemmas.{printed_read as printed_strong_read}
-use Rattle.cert_format.proofs.StrongReadingLemmas.{answer_is_text as strong_is_text}
+use Rattle.cert_format.proofs.TextLemmas.{printed_is_text}
+use Rattle.cert_format.proofs.StrongTextLemmas.{printed_is_text as printed_is_strong}
 use Rattle.cert_checker.specs.Judgement.{judgement_of}
 use Rattle.cert_checker.specs.declared.judgement.Claim.{Claim}
 use Rattle.cert_checker.specs.declared.judgement.Judgement.{Judgement}
@@ -152,7 +150,7 @@ module _ (form : PlanForm) (input : List ℕ) (net : Plan) (used rest : List Inp
         let few = rule_lines_few cert in
         let size = length-append (flat_map with_end (texts used)) (printed_certificate cert) in
         let spelled = accepted_spelled (shown_form net) (shown_sound net plan_sound) cert claim (omega (arith, few, size, fits)) accepted in
-        let (after, text) = text_is_read (printed_certificate cert) cert (printed_read cert spelled) in
+        let (after, text) = printed_is_text cert spelled in
         let (number, spare_capacity, left, read) = both_read form input net used rest divided declares Control (proof.Control cert) (printed_certificate cert) after (closed_certificate cert)
         (λ past. read_as past (lines (printed_certificate cert)) cert after text) (certificate_lines_short cert spelled) fits in
         accepts form Control net (proof.Control cert) (judgement_line (Accepted claim)) (only_accepted net cert claim accepted) (puts_accepted net cert claim accepted) (flat_map with_end (texts used) ++ printed_certificate cert)
@@ -166,7 +164,7 @@ module _ (form : PlanForm) (input : List ℕ) (net : Plan) (used rest : List Inp
         → DefinesJust (judge_program (judge_of form Strong)) (flat_map with_end (texts used) ++ printed_strong cert) (strong_judgement_line strong.Accepted) 0
     accepts_strong fits =
         let spelled = strong_spelled net plan_sound cert one accepted in
-        let (after, text) = strong_is_text (printed_strong cert) (Ok cert) (printed_strong_read cert spelled) in
+        let (after, text) = printed_is_strong cert spelled in
         let (number, spare_capacity, left, read) = both_read form input net used rest divided declares Strong (proof.Strong cert) (printed_strong cert) after (closed_strong cert)
         (λ past. read_as_strong past (lines (printed_strong cert)) cert after text) (strong_lines_short cert spelled) fits in
         accepts form Strong net (proof.Strong cert) (strong_judgement_line strong.Accepted) (only_strong net cert accepted) (puts_strong net cert accepted) (flat_map with_end (texts used) ++ printed_strong cert)

@@ -3,7 +3,7 @@ use Rattle.cert_format.specs.CertificateWords.{printed_certificate}
 use Rattle.cert_format.specs.CertificateFormat.{certificate_text}
 use Rattle.cert_format.specs.declared.certificate.Certificate.TheVariants.{Refutation}
 use Rattle.cert_format.proofs.PrintLemmas.{printed_pieces}
-use Rattle.cert_format.proofs.RoundTripLemmas.{printed_read}
+use Rattle.cert_format.proofs.TextLemmas.{printed_read}
 use Rattle.cert_format.proofs.print.print_refutation.Goals as goal
 
 text_is : (c : goal.In_ok-push_line-3) → c.push_line-3.new.out.items ≡ printed_certificate (Refutation c.args.lines.now c.args.walk.now)

@@ -2,8 +2,9 @@ use Rattle.std.proofs.Common.{◌≡◌, ℕ, List, IsTrue, ap, subst, ◌∙◌
 use Rattle.std.specs.List.{All}
 use Rattle.net_model.specs.Names.{is_name}
 use Rattle.cert_format.specs.StrongWords.{printed_strong, IsSpelledBy}
-use Rattle.cert_format.specs.StrongReading.{strong_text}
-use Rattle.cert_format.proofs.StrongPrintLemmas.{printed_pieces, printed_read}
+use Rattle.cert_format.specs.StrongGrammar.{strong_text}
+use Rattle.cert_format.proofs.StrongPrintLemmas.{printed_pieces}
+use Rattle.cert_format.proofs.StrongTextLemmas.{printed_read}
 use Rattle.cert_format.proofs.strong_print.print_strong.Goals as goal
 
 text_is : (c : goal.In_ok-push_line-2) → c.push_line-2.new.out.items ≡ printed_strong c.args.cert.now

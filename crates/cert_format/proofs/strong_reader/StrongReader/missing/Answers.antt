@@ -1,10 +1,11 @@
-use Rattle.std.proofs.Common.{sym, subst, ap, ◌∙◌}
+use Rattle.std.proofs.Common.{sym, subst}
 use Rattle.net_model.specs.declared.format.FormatKind.{FormatKind}
-use Rattle.cert_format.specs.CertificateFormat.{fault_after}
-use Rattle.cert_format.specs.StrongGrammar.{IsFirstStrongFault, missing}
-use Rattle.cert_format.proofs.StrongReadingLemmas.{prefix_stops}
+use Rattle.sectioned_texts.specs.SectionedTexts.{fault_after}
+use Rattle.sectioned_texts.proofs.ReadingLemmas.{prefix_stops}
+use Rattle.cert_format.specs.StrongGrammar.{IsFirstStrongFault, strong_lines}
+use Rattle.cert_format.proofs.StrongTextLemmas.{strong_lawful}
 use Rattle.cert_format.proofs.strong_reader.StrongReader.missing.Goals as goal
 
 pub returns-clause-fault : goal.returns-clause-fault
 returns-clause-fault c = λ prefix is.
-    subst (λ (kind : FormatKind). IsFirstStrongFault prefix (fault_after prefix kind)) (sym (c.missing.ensures ∙ ap missing c.section.ensures)) (prefix_stops prefix _ is)
+    subst (λ (kind : FormatKind). IsFirstStrongFault prefix (fault_after prefix kind)) (sym c.missing.ensures) (prefix_stops strong_lines strong_lawful prefix _ is)

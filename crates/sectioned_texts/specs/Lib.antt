@@ -1,0 +1,4 @@
+pub mod FormFaults
+pub mod SectionedTexts
+pub mod Reading
+pub mod Spellings
