@@ -11,7 +11,7 @@ use Rattle.sectioned_texts.specs.FormFaults.{IsFaultAmong, unknown_word, departs
 use Rattle.sectioned_texts.specs.SectionedTexts.{SectionedText, IsLineIn, passed_over, begins}
 use Rattle.sectioned_texts.specs.Reading.{refused_by, line_among, line_in}
 use Rattle.sectioned_texts.specs.Spellings.{Spell}
-use Rattle.sectioned_texts.proofs.LawfulTexts.{HasLawfulLines}
+use Rattle.sectioned_texts.specs.LawfulTexts.{HasLawfulLines}
 use Rattle.sectioned_texts.proofs.LineLemmas.{one_word, line_read, line_said, line_says, line_err}
 use Rattle.cert_format.specs.Keywords.{spelled, keyword_of}
 use Rattle.cert_format.specs.LineForms.{form_of}
@@ -24,7 +24,7 @@ use Rattle.cert_format.specs.declared.section.Section.{Section}
 use Rattle.cert_format.specs.declared.section.Section.TheVariants as section
 use Rattle.cert_format.specs.declared.read.CertText.{CertText}
 use Rattle.cert_format.specs.declared.read.CertText.TheVariants as text
-use Rattle.cert_format.proofs.LineLemmas.{text_word, first_word, read_back}
+use Rattle.cert_format.proofs.LineLemmas.{text_word, first_word}
 use Rattle.cert_format.proofs.TextLemmas.{certificate_lawful}
 
 -- the text in which every line may come anywhere

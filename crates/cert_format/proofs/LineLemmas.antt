@@ -1,11 +1,10 @@
 -- A line of a certificate by its first word: what is read of it is what it says, and what is spelled is read back.
-use Rattle.std.proofs.Common.{◌≡◌, ℕ, ℤ, ◌≤◌, List, [], ◌∷◌, ◌++◌, Option, None, Some, Ok, refl, sym, ap, subst, arith, codes, unsigned_abs, IsTrue}
+use Rattle.std.proofs.Common.{◌≡◌, ℕ, ℤ, ◌≤◌, List, [], ◌∷◌, ◌++◌, Option, None, Some, Ok, refl, ap, subst, arith, codes, unsigned_abs, IsTrue}
 use Rattle.std.specs.Option.{IfSome}
 use Rattle.std.specs.List.{AllByRecursion}
 use Rattle.std.specs.Fmt.{decimal, signed_decimal}
 use Rattle.texts.proofs.PrintedLineLemmas.{IsPrintable}
 use Rattle.net_model.specs.Names.{is_name}
-use Rattle.net_model.specs.Places.{Form}
 use Rattle.net_model.proofs.LineLemmas.{HaveLimits}
 use Rattle.net_model.proofs.ReadWordLemmas.{name_read}
 use Rattle.net_model.proofs.DecimalSpellingLemmas.{printable_name, printable_natural, printable_integer}

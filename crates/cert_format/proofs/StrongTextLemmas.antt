@@ -1,12 +1,12 @@
 -- The text of a strong certificate keeps the laws of a text of lines in sections: what the lines of a certificate lead to is the certificate.
-use Rattle.std.proofs.Common.{◌≡◌, ◌⊎◌, ℕ, true, false, IsTrue, List, [], ◌∷◌, ◌++◌, map, Result, Ok, Err, refl, sym, ap, ◌∙◌, subst, inl, inr}
+use Rattle.std.proofs.Common.{◌≡◌, ◌⊎◌, ℕ, true, IsTrue, List, [], ◌∷◌, ◌++◌, map, Result, Ok, Err, refl, sym, ap, ◌∙◌, subst, inl, inr}
 use Rattle.std.specs.Result.{IfOk}
 use Rattle.std.specs.List.{AllByRecursion}
 use Rattle.std.proofs.lemmas.List.{append-nil}
 use Rattle.std.proofs.lemmas.List.Elements.{recursion_from_All, All-weaker, All-from_recursion}
 use Rattle.net_model.specs.Names.{is_name}
 use Rattle.net_model.specs.declared.format.TextFault.{TextFault}
-use Rattle.sectioned_texts.proofs.LawfulTexts.{IsLawful}
+use Rattle.sectioned_texts.specs.LawfulTexts.{IsLawful}
 use Rattle.sectioned_texts.proofs.ReadingLemmas.{grammar_read}
 use Rattle.sectioned_texts.proofs.SpelledTexts.{Comes, SaidLead, MayEnd, SpellingLaws, along, all_spelled, lead_each, first_longer, second_longer, of_both, words_of_both}
 use Rattle.sectioned_texts.proofs.SpellingLemmas.{spelled_lawful, printed_declares}
@@ -54,19 +54,29 @@ LeadTo by ring = (read : StrongProgress) × Leads initial (by_and_ring by ring) 
 by_leads : (line : StrongLine) (by : List StrongLine) → IsSpelledBy line → AllByRecursion IsSpelledBy by → LeadTo (line ∷ by) []
 by_leads line by first spelled =
     let each : Leads (put section.By (line ∷ []) []) (map text.By by) (put section.By (line ∷ by) []) = lead_each strong_lines strong_spelling text_word text.By (λ ls. put section.By ls []) IsSpelledBy (λ before x. refl)
-    (λ before x is. record { may = refl; goes = refl; spelled = is }) (line ∷ []) by spelled in
-    (put section.By (line ∷ by) [],
-    (record { may = refl; goes = refl; spelled = tt },
-    subst (λ (ls : List StrongTextLine). Leads (put section.Lines [] []) ls (put section.By (line ∷ by) [])) (sym (append-nil (map text.By (line ∷ by)))) (record { may = refl; goes = refl; spelled = first }, each)),
-    refl, refl)
+    (λ before x is. record { may = refl; goes = refl; spelled = is }) (line ∷ []) by spelled in (
+      put section.By (line ∷ by) [],
+      (
+        record { may = refl; goes = refl; spelled = tt },
+        subst (λ (ls : List StrongTextLine). Leads (put section.Lines [] []) ls (put section.By (line ∷ by) [])) (sym (append-nil (map text.By (line ∷ by)))) (record { may = refl; goes = refl; spelled = first }, each),
+      ),
+      refl,
+      refl,
+    )
 
 ring_leads : (point : List ℕ) (ring : List (List ℕ)) → IsTrue (is_name point) → AllByRecursion (λ p. IsTrue (is_name p)) ring → LeadTo [] (point ∷ ring)
-ring_leads point ring first named =
-    (put section.Ring [] (point ∷ ring),
-    (record { may = refl; goes = refl; spelled = tt },
-    (record { may = refl; goes = refl; spelled = first },
-    lead_each strong_lines strong_spelling text_word text.Ring (λ ps. put section.Ring [] ps) (λ p. IsTrue (is_name p)) (λ before x. refl) (λ before x is. record { may = refl; goes = refl; spelled = is }) (point ∷ []) ring named)),
-    refl, refl)
+ring_leads point ring first named = (
+  put section.Ring [] (point ∷ ring),
+  (
+    record { may = refl; goes = refl; spelled = tt },
+    (
+      record { may = refl; goes = refl; spelled = first },
+      lead_each strong_lines strong_spelling text_word text.Ring (λ ps. put section.Ring [] ps) (λ p. IsTrue (is_name p)) (λ before x. refl) (λ before x is. record { may = refl; goes = refl; spelled = is }) (point ∷ []) ring named,
+    ),
+  ),
+  refl,
+  refl,
+)
 
 told_by : (by : List StrongLine) (ring : List (List ℕ)) → (by ≡ []) ⊎ (ring ≡ []) → AllByRecursion IsSpelledBy by → AllByRecursion (λ p. IsTrue (is_name p)) ring → LeadTo by ring
 told_by [] [] one spelled named = (put section.Lines [] [], (record { may = refl; goes = refl; spelled = tt }, refl), refl, refl)

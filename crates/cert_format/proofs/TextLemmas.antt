@@ -5,8 +5,7 @@ use Rattle.std.specs.List.{AllByRecursion}
 use Rattle.std.proofs.lemmas.List.Elements.{recursion_from_All, All-weaker, All-from_recursion}
 use Rattle.net_model.specs.Names.{is_name}
 use Rattle.net_model.specs.declared.format.TextFault.{TextFault}
-use Rattle.sectioned_texts.specs.Reading.{SaysText}
-use Rattle.sectioned_texts.proofs.LawfulTexts.{IsLawful}
+use Rattle.sectioned_texts.specs.LawfulTexts.{IsLawful}
 use Rattle.sectioned_texts.proofs.ReadingLemmas.{grammar_read}
 use Rattle.sectioned_texts.proofs.SpelledTexts.{Comes, SaidLead, MayEnd, SpellingLaws, along, all_spelled, said_lead_on, lead_each, first_longer, second_longer, of_both, words_of_both}
 use Rattle.sectioned_texts.proofs.SpellingLemmas.{spelled_lawful, printed_declares}
@@ -86,8 +85,10 @@ walk_leads : (lines : List CertLine) (walk : List ℕ) → AllByRecursion (λ i.
 walk_leads lines [] within = (put section.Rules lines [] [] [], refl, refl, refl)
 walk_leads lines (i ∷ walk) within = (
   put section.Walk lines (i ∷ walk) [] [],
-  (record { may = refl; goes = refl; spelled = within.0 },
-  lead_each certificate_lines certificate_spelling text_word text.Walk (λ ws. put section.Walk lines ws [] []) (λ i. i ≤ most_line_number) (λ before x. refl) (λ before x is. record { may = refl; goes = refl; spelled = is }) (i ∷ []) walk within.1),
+  (
+    record { may = refl; goes = refl; spelled = within.0 },
+    lead_each certificate_lines certificate_spelling text_word text.Walk (λ ws. put section.Walk lines ws [] []) (λ i. i ≤ most_line_number) (λ before x. refl) (λ before x is. record { may = refl; goes = refl; spelled = is }) (i ∷ []) walk within.1,
+  ),
   refl,
   refl,
 )
@@ -102,9 +103,11 @@ entries_lead : (order : List (List ℕ)) (entries : List Entry) → AllByRecursi
 entries_lead order [] spelled = (put section.Order [] [] order [], refl, refl, refl)
 entries_lead order (e ∷ entries) spelled = (
   put section.Entries [] [] order (e ∷ entries),
-  (record { may = (entry_may e.label).0; goes = refl; spelled = spelled.0 },
-  lead_each certificate_lines certificate_spelling text_word text.Entry (λ es. put section.Entries [] [] order es) IsSpelledEntry (λ before x. refl)
-      (λ before x is. record { may = (entry_may x.label).1; goes = refl; spelled = is }) (e ∷ []) entries spelled.1),
+  (
+    record { may = (entry_may e.label).0; goes = refl; spelled = spelled.0 },
+    lead_each certificate_lines certificate_spelling text_word text.Entry (λ es. put section.Entries [] [] order es) IsSpelledEntry (λ before x. refl)
+        (λ before x is. record { may = (entry_may x.label).1; goes = refl; spelled = is }) (e ∷ []) entries spelled.1,
+  ),
   refl,
   refl,
 )

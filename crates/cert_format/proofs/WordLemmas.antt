@@ -1,20 +1,15 @@
 -- The words after the first word of a rule line and of an entry are read back.
-use Rattle.std.proofs.Common.{◌≡◌, ℕ, ℤ, ◌≤◌, true, false, List, [], ◌∷◌, ◌++◌, Option, None, Some, Result, Ok, refl, ap, ◌∙◌, arith, unsigned_abs, IsTrue, codes}
+use Rattle.std.proofs.Common.{◌≡◌, ℕ, ℤ, ◌≤◌, List, [], ◌∷◌, ◌++◌, Option, None, Some, Result, Ok, refl, ap, arith, unsigned_abs}
 use Rattle.std.specs.Option.{is_some, is_none}
 use Rattle.std.specs.Fmt.{decimal, signed_decimal}
-use Rattle.net_model.specs.Names.{is_name}
 use Rattle.net_model.specs.Numbers.{natural_of, integer_of}
-use Rattle.texts.specs.Words.{are_passed_over}
 use Rattle.net_model.specs.declared.format.FormatKind.{FormatKind}
 use Rattle.net_model.proofs.DecimalSpellingLemmas.{natural_spelled, integer_spelled}
 use Rattle.net_model.proofs.ReadWordLemmas.{name_read}
 use Rattle.cert_format.specs.Kind.{has_label}
-use Rattle.cert_format.specs.Keywords.{spelled, keyword_of}
 use Rattle.sectioned_texts.specs.Reading.{line_after}
-use Rattle.cert_format.specs.CertificateWords.{rule_word, operand_words, label_words, line_words, walk_words, order_words, entry_word, entry_words, header_words, refutation_words, table_words, end_words, IsSpelledLine, IsSpelledEntry}
+use Rattle.cert_format.specs.CertificateWords.{rule_word, operand_words, label_words, entry_word, IsSpelledLine, IsSpelledEntry}
 use Rattle.cert_format.specs.CertificateGrammar.{certificate_lines}
-use Rattle.cert_format.specs.declared.keyword.Keyword.{Keyword}
-use Rattle.cert_format.specs.declared.keyword.Keyword.TheVariants as keyword
 use Rattle.cert_format.specs.declared.kind.LineKind.{LineKind}
 use Rattle.cert_format.specs.declared.kind.LineKind.TheVariants as kind
 use Rattle.cert_format.specs.declared.entry.Entry.{Entry}
@@ -22,7 +17,6 @@ use Rattle.cert_format.specs.declared.line.CertLine.{CertLine}
 use Rattle.cert_format.specs.declared.read.CertText.{CertText}
 use Rattle.cert_format.specs.declared.read.CertText.TheVariants as text
 use Rattle.cert_format.specs.Limits.{most_written_weight, most_line_number}
-use Rattle.cert_format.specs.declared.section.Section.{Section}
 use Rattle.cert_format.proofs.EdgeLemmas.{edge, entry_of, same_line, same_entry}
 
 pub number_read : (n : ℕ) → n ≤ most_line_number → natural_of most_line_number (decimal n) ≡ Ok n

@@ -189,6 +189,8 @@ impl SectionReader for CertReader {
     fn into_value(self) -> Certificate {
         self.into_certificate()
     }
+
+    fn is_lawful() {}
 }
 
 /// One rule line more. It is put together from its fields, so that their types are named here.

@@ -150,4 +150,6 @@ impl SectionReader for StrongReader {
     fn into_value(self) -> StrongCert {
         self.into_certificate()
     }
+
+    fn is_lawful() {}
 }

@@ -5,8 +5,5 @@ pub mod DocumentSoFar
 pub mod DocumentTexts
 pub mod PlanDocument
 pub mod PlanInput
-pub mod CertificateTexts
-pub mod CertificateInputs
-pub mod StrongTexts
-pub mod StrongInputs
+pub mod SectionInputs
 pub mod ProofInputs

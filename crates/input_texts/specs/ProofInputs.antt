@@ -1,5 +1,7 @@
 -- A certificate of either kind in an input.
 use Rattle.std.specs.Prelude.{ℕ, Bool, true, false, List, Result, Ok, codes}
+use Rattle.cert_format.specs.CertificateGrammar.{CertificateProgress, certificate_lines}
+use Rattle.cert_format.specs.StrongGrammar.{StrongProgress, strong_lines}
 use Rattle.cert_format.specs.declared.certificate.Certificate.{Certificate}
 use Rattle.cert_format.specs.declared.strong_cert.StrongCert.{StrongCert}
 use Rattle.command_engine.specs.Alternatives.{either_reader}
@@ -10,12 +12,8 @@ use Rattle.command_engine.specs.declared.alternatives.Either.{Either}
 use Rattle.command_engine.specs.declared.alternatives.Either.TheVariants.{Left, Right}
 use Rattle.command_engine.specs.declared.tested_texts.Tested.{Tested}
 use Rattle.common_answers.specs.declared.faults.Fault.{Fault}
-use Rattle.input_texts.specs.CertificateInputs.{certificate_texts}
-use Rattle.input_texts.specs.CertificateTexts.{initial_certificate, certificate_reader}
-use Rattle.input_texts.specs.StrongInputs.{strong_texts}
-use Rattle.input_texts.specs.StrongTexts.{initial_strong, strong_reader}
-use Rattle.input_texts.specs.declared.certificate_input.CertificateInput.{CertificateInput}
-use Rattle.input_texts.specs.declared.strong_input.StrongInput.{StrongInput}
+use Rattle.input_texts.specs.SectionInputs.{initial_input, section_reader, section_texts}
+use Rattle.input_texts.specs.declared.section_input.SectionInput.{SectionInput}
 use Rattle.input_texts.specs.declared.proof_input.AsControl.{AsControl}
 use Rattle.input_texts.specs.declared.proof_input.AsStrong.{AsStrong}
 use Rattle.input_texts.specs.declared.proof_input.Proof.{Proof}
@@ -41,19 +39,19 @@ strong_tests test cert number = Ok (proof.Strong cert)
 
 -- how far a certificate of either kind was read
 abbrev pub ProofInput : Type 0
-ProofInput = Either (Tested CertificateInput AsControl) (Tested StrongInput AsStrong)
+ProofInput = Either (Tested (SectionInput CertificateProgress) AsControl) (Tested (SectionInput StrongProgress) AsStrong)
 
 -- before the first line
 abbrev pub initial_proof : ProofKind → ProofInput
-initial_proof Control = Left (record { text = initial_certificate; test = record {} })
-initial_proof Strong = Right (record { text = initial_strong; test = record {} })
+initial_proof Control = Left (record { text = initial_input certificate_lines; test = record {} })
+initial_proof Strong = Right (record { text = initial_input strong_lines; test = record {} })
 
 -- the readers of the two kinds
-abbrev pub control_reader : Reader (Tested CertificateInput AsControl) Proof Fault
-control_reader = tested_reader certificate_reader control_tests
+abbrev pub control_reader : Reader (Tested (SectionInput CertificateProgress) AsControl) Proof Fault
+control_reader = tested_reader (section_reader certificate_lines) control_tests
 
-abbrev pub strong_cert_reader : Reader (Tested StrongInput AsStrong) Proof Fault
-strong_cert_reader = tested_reader strong_reader strong_tests
+abbrev pub strong_cert_reader : Reader (Tested (SectionInput StrongProgress) AsStrong) Proof Fault
+strong_cert_reader = tested_reader (section_reader strong_lines) strong_tests
 
 -- the reader of certificates of either kind
 abbrev pub proof_reader : Reader ProofInput Proof Fault
@@ -61,5 +59,5 @@ proof_reader = either_reader control_reader strong_cert_reader
 
 -- the grammar of a certificate of this kind, if so many lines stand before it in the input
 abbrev pub proof_texts : ProofKind → ℕ → Grammar Proof Fault
-proof_texts Control past = tested_grammar (certificate_texts past) control_tests (record {}) past
-proof_texts Strong past = tested_grammar (strong_texts past) strong_tests (record {}) past
+proof_texts Control past = tested_grammar (section_texts certificate_lines past) control_tests (record {}) past
+proof_texts Strong past = tested_grammar (section_texts strong_lines past) strong_tests (record {}) past

@@ -2,7 +2,6 @@
 //! that it declares; a certificate of either kind, line by line; and the grammars of these.
 #![tactic(auto)]
 
-mod certificate_input;
 mod delay;
 mod laws;
 mod plan_document;
@@ -10,9 +9,8 @@ mod plan_input;
 mod plan_network;
 mod plan_text;
 mod proof_input;
-mod strong_input;
+mod section_input;
 
-pub use certificate_input::CertificateInput;
 pub use delay::Delay;
 pub use laws::{
     law_documents_are_refused_by_their_faults, law_plan_texts_are_as_the_format_says,
@@ -23,4 +21,4 @@ pub use plan_input::{Notation, NotedPlan, PlanForm, PlanInput};
 pub use plan_network::PlanNetwork;
 pub use plan_text::{BuildPlan, Declarations, PlanText};
 pub use proof_input::{AsControl, AsStrong, Proof, ProofInput, ProofKind};
-pub use strong_input::StrongInput;
+pub use section_input::{CertificateInput, SectionInput, StrongInput};

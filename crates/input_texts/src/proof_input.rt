@@ -3,9 +3,8 @@
 ghost use Rattle.std.specs.Prelude.{◌≡◌};
 ghost use Rattle.input_texts.specs.ProofInputs.{control_tests, strong_tests};
 
-use crate::certificate_input::CertificateInput;
-use crate::strong_input::StrongInput;
-use cert_format::{Certificate, StrongCert};
+use crate::section_input::{CertificateInput, SectionInput, StrongInput};
+use cert_format::{CertReader, Certificate, StrongCert, StrongReader};
 use command_engine::{Either, Test, Tested};
 use common_answers::Fault;
 use std::alloc::{AllocError, Global};
@@ -90,11 +89,15 @@ impl ProofKind {
     {
         match self {
             ProofKind::Control => Either::Left(Tested {
-                text: CertificateInput::new(alloc),
+                text: SectionInput {
+                    reader: CertReader::new(alloc),
+                },
                 test: AsControl,
             }),
             ProofKind::Strong => Either::Right(Tested {
-                text: StrongInput::new(alloc),
+                text: SectionInput {
+                    reader: StrongReader::new(alloc),
+                },
                 test: AsStrong,
             }),
         }

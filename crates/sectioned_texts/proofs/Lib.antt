@@ -1,5 +1,4 @@
 pub mod FirstWordLemmas
-pub mod LawfulTexts
 pub mod LineLemmas
 pub mod ReadingLemmas
 pub mod SpelledTexts

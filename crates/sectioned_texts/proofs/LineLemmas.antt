@@ -1,5 +1,5 @@
 -- A line that may come is read as what it says, no other line is read, and a line that is refused has its one fault.
-use Rattle.std.proofs.Common.{◌≡◌, ℕ, Bool, true, false, cond, List, [], ◌∷◌, Option, None, Some, Result, Ok, Err, refl, sym, ap, ◌∙◌, subst, inl, inr, find}
+use Rattle.std.proofs.Common.{◌≡◌, ℕ, Bool, true, false, List, [], ◌∷◌, Option, None, Some, Result, Ok, Err, refl, sym, ap, ◌∙◌, subst, inl, inr, find}
 use Rattle.std.specs.Str.{bytes_eq}
 use Rattle.texts.specs.Words.{is_remark, are_passed_over}
 use Rattle.net_model.specs.Places.{Form, places_of, DepartsFrom}
@@ -11,7 +11,7 @@ use Rattle.net_model.proofs.ReadWordLemmas.{choice, word_is}
 use Rattle.sectioned_texts.specs.FormFaults.{IsFaultAmong, unknown_word, departs}
 use Rattle.sectioned_texts.specs.SectionedTexts.{SectionedText, IsLineIn, passed_over, begins, IsFaultBy, IsFaultIn}
 use Rattle.sectioned_texts.specs.Reading.{header_or_unknown, refused_by, word_of, header_line, line_by, line_after, line_among, line_in}
-use Rattle.sectioned_texts.proofs.LawfulTexts.{HasLawfulLines}
+use Rattle.sectioned_texts.specs.LawfulTexts.{HasLawfulLines}
 
 find_passes : {K : Type 0} (test : K → Bool) (all : List K) (first : K) → find test all ≡ Some first → test first ≡ true
 find_passes test [] first found = absurd (cc)

@@ -10,10 +10,10 @@ use Rattle.net_model.specs.declared.format.WordFault.{WordFault}
 use Rattle.net_model.specs.declared.format.WordFault.TheVariants as word
 use Rattle.net_model.specs.declared.format.TextFault.{TextFault}
 use Rattle.net_model.specs.declared.format.TextFault.TheVariants as whole
-use Rattle.sectioned_texts.specs.SectionedTexts.{SectionedText, IsLineIn, passed_over, begins, Lead, IsPrefixOf, AreTextOf, CanBecomeText, ExcludesText, IsFaultIn, missing_in, IsFaultOfRest, IsFirstFaultOf, HasFirstFault, BringsBy, LineBrings}
+use Rattle.sectioned_texts.specs.SectionedTexts.{SectionedText, IsLineIn, Lead, IsPrefixOf, AreTextOf, CanBecomeText, ExcludesText, IsFaultIn, missing_in, IsFaultOfRest, IsFirstFaultOf, HasFirstFault, BringsBy, LineBrings}
 use Rattle.sectioned_texts.specs.SectionedTexts.{HaveOneReading, fault_after}
 use Rattle.sectioned_texts.specs.Reading.{ReadValue, SaysLine, SaysText, value_part, line_in, read_on, said_from, read_from, read_text}
-use Rattle.sectioned_texts.proofs.LawfulTexts.{IsLawful, IsEndedBy}
+use Rattle.sectioned_texts.specs.LawfulTexts.{IsLawful, IsEndedBy}
 use Rattle.sectioned_texts.proofs.LineLemmas.{line_read, line_said, line_says, line_err, one_line_fault}
 
 pub fault_is : (line other : ℕ) (kind : FormatKind) (fault : FormatFault) → fault.line ≡ other + 1 → line ≡ 1 + other → fault.kind ≡ kind → (let f : FormatFault = record { line = line; kind = kind } in f) ≡ fault

@@ -1,18 +1,18 @@
 -- A text that is spelled in one way is lawful, and a printed value is read back.
 use Rattle.std.proofs.Common.{◌≡◌, ◌⊎◌, ℕ, Bool, true, false, cond, List, [], ◌∷◌, ◌++◌, map, Ok, refl, sym, ap, ◌∙◌, subst, append_assoc, inl, inr}
 use Rattle.std.specs.List.{AllByRecursion}
-use Rattle.std.proofs.lemmas.List.{append-nil, map-append, append_cancel_right}
+use Rattle.std.proofs.lemmas.List.{map-append, append_cancel_right}
 use Rattle.texts.specs.Words.{are_passed_over, words}
 use Rattle.texts.specs.Lines.{lines}
 use Rattle.texts.specs.PrintedLines.{joined, printed}
 use Rattle.texts.proofs.PrintedLineLemmas.{IsPrintableLine, words-joined, lines-printed}
 use Rattle.sectioned_texts.specs.SectionedTexts.{SectionedText, IsLineIn, passed_over, begins, Lead, IsPrefixOf, CanBecomeText}
-use Rattle.sectioned_texts.specs.Reading.{word_of, line_after}
+use Rattle.sectioned_texts.specs.Reading.{line_after}
 use Rattle.sectioned_texts.specs.Spellings.{Spelling, HasWords, Spell, DeclareSpelled, filled_words}
-use Rattle.sectioned_texts.proofs.LawfulTexts.{HasLawfulLines, IsLawful, IsEndedBy}
+use Rattle.sectioned_texts.specs.LawfulTexts.{IsLawful, IsEndedBy}
 use Rattle.sectioned_texts.proofs.LineLemmas.{one_word}
 use Rattle.sectioned_texts.proofs.ReadingLemmas.{lead_on}
-use Rattle.sectioned_texts.proofs.SpelledTexts.{Comes, SaidLead, IsReadBack, MayEnd, SpellingLaws, all_spelled}
+use Rattle.sectioned_texts.proofs.SpelledTexts.{SaidLead, SpellingLaws, all_spelled}
 
 -- the lines of two texts that are not blank
 filled_by : (blank : Bool) (line : List (List ℕ)) (xs ys : List (List (List ℕ))) → cond blank (xs ++ ys) (line ∷ (xs ++ ys)) ≡ cond blank xs (line ∷ xs) ++ ys
@@ -230,9 +230,12 @@ module _ {S K L P V : Type 0} (given : SectionedText S K L P V) (spelling : Spel
         words = end_said ∙ sym laws.last_words;
         may = may;
         spelled = laws.last_spelled;
-      } in
-      (more ++ end_line ∷ [], value, [],
-      subst (λ (all : List (List ℕ)). DeclareSpelled spelling all value []) (append_assoc prefix more (end_line ∷ [])) (declared_by (prefix ++ more) end_line [] to longer is))
+      } in (
+        more ++ end_line ∷ [],
+        value,
+        [],
+        subst (λ (all : List (List ℕ)). DeclareSpelled spelling all value []) (append_assoc prefix more (end_line ∷ [])) (declared_by (prefix ++ more) end_line [] to longer is),
+      )
 
   header_in : (section : S) (line : Words) → given.opens section ≡ true → given.IsHeader line → (said : L) × IsLineIn text section said line
   header_in section line opens header =

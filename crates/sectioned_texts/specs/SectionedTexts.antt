@@ -36,7 +36,7 @@ pub record SectionedText (S K L P V : Type 0) : Type 1 where
   pub declares : List (List ℕ) → V → List (List ℕ) → Type 0
 
 -- the fault of a text that ends where the header must come, or later
-abbrev missing_by : (opens : Bool) → FormatKind
+abbrev pub missing_by : (opens : Bool) → FormatKind
 missing_by true = NoHeader
 missing_by false = NoEnd
 

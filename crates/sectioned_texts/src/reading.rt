@@ -1,8 +1,12 @@
 //! The reading of a text of lines in sections, line by line.
 
-ghost use Rattle.std.specs.Prelude.{◌≡◌, ◌<◌, ◌^◌, length, IfOk, OnErr};
+ghost use Rattle.std.specs.Prelude.{◌≡◌, ◌<◌, ◌^◌, ℕ, List, length, Err, IfErr, IfOk, Ok, OnErr};
+ghost use Rattle.texts.specs.Lines.{lines};
 ghost use Rattle.texts.specs.Words.{words};
-ghost use Rattle.sectioned_texts.specs.SectionedTexts.{missing_in};
+ghost use Rattle.net_model.specs.declared.format.FormatFault.{FormatFault};
+ghost use Rattle.sectioned_texts.specs.SectionedTexts.{AreTextOf, HasFirstFault, IsFirstFaultOf};
+ghost use Rattle.sectioned_texts.specs.SectionedTexts.{IsPrefixOf, LineBrings, fault_after};
+ghost use Rattle.sectioned_texts.specs.SectionedTexts.{missing_in, missing_by};
 ghost use Rattle.sectioned_texts.specs.Reading.{SaysLine, SaysText, refused_by, fault_at_line};
 ghost use Rattle.sectioned_texts.specs.Reading.{header_line, version_one, line_among, line_in};
 ghost use Rattle.sectioned_texts.specs.Reading.{read_text};
@@ -25,9 +29,23 @@ pub fn version_one<L: Copy>(said: L, rest: &[u8]) -> Result<L, FormatKind>
     Err(FormatKind::UnknownWord)
 }
 
-/// Reads the next line in its place and keeps what it says. A line that is refused changes nothing,
-/// and want of memory neither.
+/// Reads the next line in its place and keeps what it says. If the lines before were the prefix of
+/// a text, they are a longer prefix with this one, or at its last line declare the value that is
+/// kept, whatever stands after them, or this line has their first fault. A line that is refused
+/// changes nothing, and want of memory neither.
 pub fn read_line<R: SectionReader>(reader: &mut R, line: &[u8]) -> Result<R::Line, WordFault>
+    ensures brings { (prefix : List (List ℕ)) → IsPrefixOf R.text prefix reader.old
+        → LineBrings R.text prefix line.now result reader.new }
+    ensures said { SaysLine result
+        (line_in R.text (R.text.section reader.old) (words line.now)) }
+    ensures kept { IfOk result (λ said. reader.new ≡ R.text.advanced reader.old said) }
+    ensures refused { OnErr result (reader.new ≡ reader.old) }
+{
+    R::is_lawful();
+    take_line(reader, line)
+}
+
+fn take_line<R: SectionReader>(reader: &mut R, line: &[u8]) -> Result<R::Line, WordFault>
     ensures said { SaysLine result
         (line_in R.text (R.text.section reader.old) (words line.now)) }
     ensures kept { IfOk result (λ said. reader.new ≡ R.text.advanced reader.old said) }
@@ -38,21 +56,47 @@ pub fn read_line<R: SectionReader>(reader: &mut R, line: &[u8]) -> Result<R::Lin
     Ok(said)
 }
 
-/// The fault if the lines end here: `NoHeader` where the header must come, else `NoEnd`.
+/// The fault if the lines end here: `NoHeader` where the header must come, else `NoEnd`, in the
+/// line after them. After the prefix of a text that is the first fault of its lines.
 pub fn missing<R: SectionReader>(reader: &R) -> FormatKind
-    ensures { result ≡ missing_in R.text (R.text.section reader.now) }
+    ensures missing { result ≡ missing_in R.text (R.text.section reader.now) }
+    ensures fault { (prefix : List (List ℕ)) → IsPrefixOf R.text prefix reader.now
+        → IsFirstFaultOf R.text prefix (fault_after prefix result) }
 {
-    if R::opens(reader.section()) {
+    R::is_lawful();
+    missing_by(R::opens(reader.section()))
+}
+
+fn missing_by(opens: bool) -> FormatKind
+    ensures { result ≡ missing_by opens }
+{
+    if opens {
         FormatKind::NoHeader
     } else {
         FormatKind::NoEnd
     }
 }
 
-/// Reads the lines of a text, one after another, up to its last line. The fault is that of the
-/// first bad line; if the text ends before its last line, it is `missing`, at the number after the
-/// last line. `OutOfMemory` comes only for want of memory. There are fewer than 2^31 bytes.
+/// Reads the lines of a text, one after another, up to its last line; nothing after that is looked
+/// at. The fault is that of the first bad line; if the text ends before its last line, it is
+/// `missing`, at the number after the last line. `OutOfMemory` comes only for want of memory. There
+/// are fewer than 2^31 bytes.
 pub fn read_text<R: SectionReader>(reader: R, bytes: &[u8]) -> Result<R::Value, TextFault>
+    requires initial { reader ≡ R.text.initial }
+    requires size { length bytes.now < 2 ^ 31 }
+    ensures text { SaysText result (read_text R.text bytes.now) }
+    ensures in_grammar { IfOk result (λ value. AreTextOf R.text bytes.now value) }
+    ensures first_fault { IfErr result (HasFirstFault R.text bytes.now) }
+    ensures every_text { (value : R.Value) → AreTextOf R.text bytes.now value
+        → SaysText result (Ok value) }
+    ensures every_fault { (fault : FormatFault) → IsFirstFaultOf R.text (lines bytes.now) fault
+        → SaysText result (Err fault) }
+{
+    R::is_lawful();
+    read_lines(reader, bytes)
+}
+
+fn read_lines<R: SectionReader>(reader: R, bytes: &[u8]) -> Result<R::Value, TextFault>
     requires initial { reader ≡ R.text.initial }
     requires size { length bytes.now < 2 ^ 31 }
     ensures { SaysText result (read_text R.text bytes.now) }
@@ -61,7 +105,7 @@ pub fn read_text<R: SectionReader>(reader: R, bytes: &[u8]) -> Result<R::Value, 
     let mut rest = bytes;
     let mut number: u32 = 1;
     while let Some((line, others)) = texts::next_line(rest) {
-        match read_line(&mut reader, line) {
+        match take_line(&mut reader, line) {
             Ok(said) => {
                 if R::is_last(&said) {
                     return Ok(reader.into_value());
@@ -72,7 +116,7 @@ pub fn read_text<R: SectionReader>(reader: R, bytes: &[u8]) -> Result<R::Value, 
         number += 1;
         rest = others;
     }
-    let kind = missing(&reader);
+    let kind = missing_by(R::opens(reader.section()));
     Err(FormatFault { line: number, kind }.into())
 }
 

@@ -4,12 +4,14 @@ ghost use Rattle.std.specs.Prelude.{◌≡◌, OnErr, OnOk};
 ghost use Rattle.texts.specs.Words.{words};
 ghost use Rattle.sectioned_texts.specs.SectionedTexts.{SectionedText};
 ghost use Rattle.sectioned_texts.specs.Reading.{word_of, line_after};
+ghost use Rattle.sectioned_texts.specs.LawfulTexts.{IsLawful};
 
 use net_model::FormatKind;
 use std::alloc::AllocError;
 
-/// How far a text of lines in sections was read. A type that says so has its text as data, and for
-/// each part of that a function; `read_line` and `read_text` are made of these.
+/// How far a text of lines in sections was read. A type that says so has its text as data, with the
+/// law that the data keep, and for each part of them a function; `read_line`, `missing` and
+/// `read_text` are made of these.
 pub trait SectionReader: Drop {
     /// What may come next in the text.
     type Section: Copy;
@@ -62,4 +64,9 @@ pub trait SectionReader: Drop {
     /// What the lines say that were read.
     fn into_value(self) -> Self::Value
         ensures { result ≡ text.value self };
+
+    /// The law that what is read of a line is what its words say, and that what lines declare is
+    /// what they lead to.
+    fn is_lawful()
+        ensures { IsLawful text };
 }

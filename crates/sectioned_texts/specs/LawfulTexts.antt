@@ -1,5 +1,5 @@
 -- What is required of a text of lines in sections, for each of its first words, its values and its prefixes.
-use Rattle.std.proofs.Common.{◌≡◌, ℕ, true, false, List, [], ◌∷◌, ◌++◌, Some, Ok}
+use Rattle.std.specs.Prelude.{◌≡◌, ℕ, true, false, List, ◌∷◌, ◌++◌, Some, Ok}
 use Rattle.texts.specs.Words.{is_remark, are_passed_over, words}
 use Rattle.sectioned_texts.specs.SectionedTexts.{SectionedText, IsLineIn, IsPrefixOf, CanBecomeText}
 use Rattle.sectioned_texts.specs.Reading.{word_of, line_after}

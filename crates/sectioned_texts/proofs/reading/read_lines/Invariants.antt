@@ -1,7 +1,7 @@
 use Rattle.std.proofs.Common.{◌≡◌, ◌+◌, ◌≤◌, length}
 use Rattle.texts.specs.Lines.{lines}
 use Rattle.sectioned_texts.specs.Reading.{value_part, read_from, read_text}
-use Rattle.sectioned_texts.proofs.reading.read_text.Given as goal
+use Rattle.sectioned_texts.proofs.reading.read_lines.Given as goal
 
 abbrev pub invariant-loop-line : goal.invariant-loop-line
 invariant-loop-line g l = record {

@@ -1,8 +1,0 @@
-use Rattle.sectioned_texts.proofs.ReadingLemmas.{answer_brings}
-use Rattle.cert_format.specs.CertificateGrammar.{certificate_lines}
-use Rattle.cert_format.proofs.TextLemmas.{certificate_lawful}
-use Rattle.cert_format.proofs.reader.CertReader.read_line.Goals as goal
-
-pub returns-clause-brings : goal.returns-clause-brings
-returns-clause-brings c = λ prefix is.
-    answer_brings certificate_lines certificate_lawful prefix c.args.line.now _ _ c.read_line.result c.read_line.ensures.said c.read_line.ensures.kept is
