@@ -109,15 +109,18 @@ record IsSoFar (said : List StrongTextLine) (read : StrongProgress) : Type 0 whe
 abbrev more : StrongTextLine → List StrongTextLine → List StrongTextLine
 more said before = before ++ said ∷ []
 
-by_more : (r : StrongProgress) (before : List StrongTextLine) (line : StrongLine) → before ≡ by_and_ring r.by r.ring → r.ring ≡ [] → IsSoFar (before ++ text.By line ∷ []) (put section.By (r.by ++ line ∷ []) r.ring)
+by_more : (r : StrongProgress) (before : List StrongTextLine) (line : StrongLine) → before ≡ by_and_ring r.by r.ring → r.ring ≡ []
+    → IsSoFar (before ++ text.By line ∷ []) (put section.By (r.by ++ line ∷ []) r.ring)
 by_more r before line are none =
     record { are = ap (more (text.By line)) are ∙ ap (λ (ls : List StrongTextLine). text.Header ∷ ls) (first_longer text.By text.Ring r.by r.ring line none); reached = none }
 
-ring_more : (r : StrongProgress) (before : List StrongTextLine) (point : List ℕ) → before ≡ by_and_ring r.by r.ring → r.by ≡ [] → IsSoFar (before ++ text.Ring point ∷ []) (put section.Ring r.by (r.ring ++ point ∷ []))
+ring_more : (r : StrongProgress) (before : List StrongTextLine) (point : List ℕ) → before ≡ by_and_ring r.by r.ring → r.by ≡ []
+    → IsSoFar (before ++ text.Ring point ∷ []) (put section.Ring r.by (r.ring ++ point ∷ []))
 ring_more r before point are none =
     record { are = ap (more (text.Ring point)) are ∙ ap (λ (ls : List StrongTextLine). text.Header ∷ ls) (second_longer text.By text.Ring r.by r.ring point); reached = none }
 
-next : (said : StrongTextLine) (s : StrongSection) (r : StrongProgress) (before : List StrongTextLine) → before ≡ so_far s r → IsReached s r → May s said → IsSoFar (before ++ said ∷ []) (advanced (put s r.by r.ring) said)
+next : (said : StrongTextLine) (s : StrongSection) (r : StrongProgress) (before : List StrongTextLine) → before ≡ so_far s r → IsReached s r → May s said
+    → IsSoFar (before ++ said ∷ []) (advanced (put s r.by r.ring) said)
 next text.Blank s r before are reached comes = absurd comes.spelled
 next text.End s r before are reached comes = absurd (let wrong = comes.goes in cc)
 next text.Header section.Header r before are reached comes = record {

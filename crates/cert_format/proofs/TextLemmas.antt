@@ -173,7 +173,8 @@ refuted s said none comes = absurd (let wrong : false ≡ true = sym none ∙ co
 abbrev more : CertText → List CertText → List CertText
 more said before = before ++ said ∷ []
 
-next : (said : CertText) (s : Section) (r : CertificateProgress) (before : List CertText) → before ≡ so_far s r → IsReached s r → May s said → IsSoFar (before ++ said ∷ []) (advanced (put s r.lines r.walk r.order r.entries) said)
+next : (said : CertText) (s : Section) (r : CertificateProgress) (before : List CertText) → before ≡ so_far s r → IsReached s r → May s said
+    → IsSoFar (before ++ said ∷ []) (advanced (put s r.lines r.walk r.order r.entries) said)
 next text.Blank s r before are reached comes = absurd comes.spelled
 next text.End s r before are reached comes = absurd (let wrong = comes.goes in cc)
 next text.Header section.Header r before are reached comes = record { are = ap (more text.Header) are; reached = reached }

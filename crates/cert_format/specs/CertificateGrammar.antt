@@ -1,5 +1,5 @@
--- The grammar of the texts of certificates: what their lines say, their sections, what is read of them, and by these the text of a certificate as a text of lines
--- in sections.
+-- The grammar of the texts of certificates: what their lines say, their sections, what is read of them, and by these the text of a
+-- certificate as a text of lines in sections.
 use Rattle.std.specs.Prelude.{◌≡◌, ◌≢◌, ℕ, ◌≤◌, Bool, true, false, IsTrue, is_some, List, [], ◌∷◌, ◌++◌}
 use Rattle.texts.specs.Words.{words}
 use Rattle.net_model.specs.Names.{is_name}
@@ -49,7 +49,13 @@ IsSpelledText others = Unit {0}
 
 -- how certificates are spelled
 abbrev pub certificate_spelling : Spelling CertText Certificate
-certificate_spelling = record { words_of = text_words; IsSpelled = IsSpelledText; value_words = certificate_words; end_words = end_words; IsSpelledValue = IsSpelled }
+certificate_spelling = record {
+  words_of = text_words;
+  IsSpelled = IsSpelledText;
+  value_words = certificate_words;
+  end_words = end_words;
+  IsSpelledValue = IsSpelled;
+}
 
 -- a line says this
 abbrev pub IsCertificateLine : CertText → List ℕ → Type 0

@@ -1,5 +1,5 @@
--- The grammar of the texts of strong certificates: what their lines say, their sections, what is read of them, and by these the text of a strong certificate as a
--- text of lines in sections.
+-- The grammar of the texts of strong certificates: what their lines say, their sections, what is read of them, and by these the text of a
+-- strong certificate as a text of lines in sections.
 use Rattle.std.specs.Prelude.{◌≡◌, ℕ, Bool, true, false, IsTrue, List, [], ◌∷◌, ◌++◌, Result}
 use Rattle.net_model.specs.Names.{is_name}
 use Rattle.net_model.specs.declared.format.FormatFault.{FormatFault}
@@ -35,7 +35,13 @@ IsSpelledText others = Unit {0}
 
 -- how strong certificates are spelled
 abbrev pub strong_spelling : Spelling StrongTextLine StrongCert
-strong_spelling = record { words_of = text_words; IsSpelled = IsSpelledText; value_words = strong_words; end_words = end_words; IsSpelledValue = IsSpelledStrong }
+strong_spelling = record {
+  words_of = text_words;
+  IsSpelled = IsSpelledText;
+  value_words = strong_words;
+  end_words = end_words;
+  IsSpelledValue = IsSpelledStrong;
+}
 
 -- The lines declare a strong certificate, and these lines come after it: the lines up to the `end` line are spelled as the certificate is, with blank lines
 -- between.

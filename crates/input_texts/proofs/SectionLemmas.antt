@@ -25,19 +25,22 @@ module _ {S K L P V : Type 0} (text : SectionedText S K L P V) (lawful : IsLawfu
   abbrev Stands : List (List ℕ) → SectionInput P → Type 0
   Stands lines state = IsPrefixOf text lines state.reader
 
-  goes_on : (is_last : Bool) (lines : List (List ℕ)) (next : List ℕ) (said : L) (read : P) (to : SectionInput P) → BringsBy text is_last lines next said read → step_by text is_last read ≡ Continue to → Stands (lines ++ next ∷ []) to
+  goes_on : (is_last : Bool) (lines : List (List ℕ)) (next : List ℕ) (said : L) (read : P) (to : SectionInput P) → BringsBy text is_last lines next said read
+      → step_by text is_last read ≡ Continue to → Stands (lines ++ next ∷ []) to
   goes_on true lines next said read to brings goes = absurd (cc)
   goes_on false lines next said read to brings goes =
       let same : record { reader = read } ≡ to = cc in
       subst (Stands (lines ++ next ∷ [])) same brings.1
 
-  goes_by : (lines : List (List ℕ)) (next : List ℕ) (read : P) (said : Result L FormatKind) (number : ℕ) (to : SectionInput P) → line_in text (text.section read) (words next) ≡ said → IsPrefixOf text lines read
+  goes_by : (lines : List (List ℕ)) (next : List ℕ) (read : P) (said : Result L FormatKind) (number : ℕ) (to : SectionInput P) → line_in text (text.section read) (words next) ≡ said
+      → IsPrefixOf text lines read
       → section_step text read number said ≡ Continue to → Stands (lines ++ next ∷ []) to
   goes_by lines next read (Ok said) number to is prefix goes =
       goes_on (text.is_last said) lines next said (text.advanced read said) to (said_brings text lawful lines next read said prefix is) goes
   goes_by lines next read (Err kind) number to is prefix goes = absurd (cc)
 
-  ends_with : (is_last : Bool) (lines : List (List ℕ)) (next : List ℕ) (others : List (List ℕ)) (said : L) (read : P) (value : V) → BringsBy text is_last lines next said read → step_by text is_last read ≡ Parsed value
+  ends_with : (is_last : Bool) (lines : List (List ℕ)) (next : List ℕ) (others : List (List ℕ)) (said : L) (read : P) (value : V) → BringsBy text is_last lines next said read
+      → step_by text is_last read ≡ Parsed value
       → text.declares (lines ++ next ∷ others) value others
   ends_with true lines next others said read value brings gives =
       let same : text.value read ≡ value = cc in

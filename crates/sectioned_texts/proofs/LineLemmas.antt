@@ -67,7 +67,8 @@ module _ {S K L P V : Type 0} (text : SectionedText S K L P V) where
       ]
 
   -- a line has one first word, if each is found as it is spelled
-  pub one_word : ((first : K) → word_of text (text.spelled first) ≡ Some first) → (line : List (List ℕ)) (f g : K) (xs ys : List (List ℕ)) → line ≡ text.spelled f ∷ xs → line ≡ text.spelled g ∷ ys → (f ≡ g) × (xs ≡ ys)
+  pub one_word : ((first : K) → word_of text (text.spelled first) ≡ Some first) → (line : List (List ℕ)) (f g : K) (xs ys : List (List ℕ)) → line ≡ text.spelled f ∷ xs
+      → line ≡ text.spelled g ∷ ys → (f ≡ g) × (xs ≡ ys)
   one_word found line f g xs ys p q =
       let both : text.spelled f ∷ xs ≡ text.spelled g ∷ ys = sym p ∙ q in
       let first : text.spelled f ≡ text.spelled g = cc in
@@ -78,7 +79,8 @@ module _ {S K L P V : Type 0} (text : SectionedText S K L P V) where
     begins_with : (word : List ℕ) (others : List (List ℕ)) (first : K) (rest : List (List ℕ)) → word ∷ others ≡ text.spelled first ∷ rest → word_of text word ≡ Some first
     begins_with word others first rest same = let is : word ≡ text.spelled first = cc in ap (word_of text) is ∙ lawful.found first
 
-    among_by : (may : K → Bool) (word : List ℕ) (others : List (List ℕ)) (kind : FormatKind) (found : Option K) → is_remark word ≡ false → word_of text word ≡ found → line_among text may found others ≡ Err kind
+    among_by : (may : K → Bool) (word : List ℕ) (others : List (List ℕ)) (kind : FormatKind) (found : Option K) → is_remark word ≡ false → word_of text word ≡ found
+        → line_among text may found others ≡ Err kind
         → IsFaultAmong text.spelled text.form_of may (word ∷ others) kind
     among_by may word others kind None filled is read =
         unknown_word filled (λ first rest comes same. let wrong : None ≡ Some first = sym is ∙ begins_with word others first rest same in absurd (cc)) (let unknown : Err UnknownWord ≡ Err kind = read in cc)

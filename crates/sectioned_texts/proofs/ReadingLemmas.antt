@@ -16,7 +16,8 @@ use Rattle.sectioned_texts.specs.Reading.{ReadValue, SaysLine, SaysText, value_p
 use Rattle.sectioned_texts.specs.LawfulTexts.{IsLawful, IsEndedBy}
 use Rattle.sectioned_texts.proofs.LineLemmas.{line_read, line_said, line_says, line_err, one_line_fault}
 
-pub fault_is : (line other : ℕ) (kind : FormatKind) (fault : FormatFault) → fault.line ≡ other + 1 → line ≡ 1 + other → fault.kind ≡ kind → (let f : FormatFault = record { line = line; kind = kind } in f) ≡ fault
+pub fault_is : (line other : ℕ) (kind : FormatKind) (fault : FormatFault) → fault.line ≡ other + 1 → line ≡ 1 + other → fault.kind ≡ kind
+    → (let f : FormatFault = record { line = line; kind = kind } in f) ≡ fault
 fault_is line other kind fault place at same =
     let number : line ≡ fault.line = omega (arith, place, at) in
     ap (λ (n : ℕ). let f : FormatFault = record { line = n; kind = kind } in f) number ∙ ap (λ (k : FormatKind). let f : FormatFault = record { line = fault.line; kind = k } in f) (sym same)
@@ -51,7 +52,8 @@ module _ {S K L P V : Type 0} (text : SectionedText S K L P V) where
         (lead_read prefix more (text.advanced from leads.0) to (number + 1) leads.3 ∙ read_at to (number + 1 + length prefix) (number + length (line ∷ prefix)) more (omega arith))
 
     -- a prefix is read as what it says
-    pub prefix_read : (prefix : List (List ℕ)) (read : P) → IsPrefixOf text prefix read → (more : List (List ℕ)) → read_from text text.initial 1 (prefix ++ more) ≡ read_from text read (1 + length prefix) more
+    pub prefix_read : (prefix : List (List ℕ)) (read : P) → IsPrefixOf text prefix read → (more : List (List ℕ))
+        → read_from text text.initial 1 (prefix ++ more) ≡ read_from text read (1 + length prefix) more
     prefix_read prefix read is more = lead_read prefix more text.initial read 1 is
 
     ended_read : (all : List (List ℕ)) (value : V) (after : List (List ℕ)) → IsEndedBy text all value after → read_from text text.initial 1 all ≡ Ok (record { value = value; after = after })
@@ -92,14 +94,16 @@ module _ {S K L P V : Type 0} (text : SectionedText S K L P V) where
           departs = refl;
         }
 
-    refused_after : (prefix : List (List ℕ)) (line : List ℕ) (read : P) (kind : FormatKind) → IsPrefixOf text prefix read → line_in text (text.section read) (words line) ≡ Err kind → CanBecomeText text (prefix ++ line ∷ []) → ⊥
+    refused_after : (prefix : List (List ℕ)) (line : List ℕ) (read : P) (kind : FormatKind) → IsPrefixOf text prefix read → line_in text (text.section read) (words line) ≡ Err kind
+        → CanBecomeText text (prefix ++ line ∷ []) → ⊥
     refused_after prefix line read kind is refused (more, value, after, declares) =
         let at : ℕ = 1 + length prefix in
         no_value (prefix ++ line ∷ [] ++ more) value after (record { line = at; kind = kind }) (ap (read_from text text.initial 1) (append_assoc prefix (line ∷ []) more) ∙ prefix_read prefix read is (line ∷ more)
         ∙ ap (λ (said : Result L FormatKind). said_from text read at said more (λ next. read_from text next (at + 1) more)) refused) declares
 
     -- the fault of a line that is refused after a prefix
-    pub prefix_refused : (prefix : List (List ℕ)) (line : List ℕ) (read : P) (kind : FormatKind) (after : List (List ℕ)) → IsPrefixOf text prefix read → line_in text (text.section read) (words line) ≡ Err kind
+    pub prefix_refused : (prefix : List (List ℕ)) (line : List ℕ) (read : P) (kind : FormatKind) (after : List (List ℕ)) → IsPrefixOf text prefix read
+        → line_in text (text.section read) (words line) ≡ Err kind
         → IsFirstFaultOf text (prefix ++ line ∷ after) (fault_after prefix kind)
     prefix_refused prefix line read kind after is refused = record {
       prefix = prefix;
@@ -114,18 +118,21 @@ module _ {S K L P V : Type 0} (text : SectionedText S K L P V) where
     }
 
     -- what a line brings that may come after a prefix
-    brings_by : (is_last : Bool) (prefix : List (List ℕ)) (line : List ℕ) (read : P) (said : L) → text.is_last said ≡ is_last → IsPrefixOf text prefix read → IsLineIn text (text.section read) said (words line)
+    brings_by : (is_last : Bool) (prefix : List (List ℕ)) (line : List ℕ) (read : P) (said : L) → text.is_last said ≡ is_last → IsPrefixOf text prefix read
+        → IsLineIn text (text.section read) said (words line)
         → BringsBy text is_last prefix line said (text.advanced read said)
     brings_by true prefix line read said last is comes =
         λ after. lawful.declared (prefix ++ line ∷ after) (text.value (text.advanced read said)) after
         (record { prefix = prefix; last = line; read = read; said = said; whole = refl; leads = is; comes = comes; ends = last; value_is = refl })
     brings_by false prefix line read said goes is comes = (line_says text lawful.lines (text.section read) said (words line) comes, lead_more prefix line text.initial read said is comes goes)
 
-    pub said_brings : (prefix : List (List ℕ)) (line : List ℕ) (read : P) (said : L) → IsPrefixOf text prefix read → line_in text (text.section read) (words line) ≡ Ok said → LineBrings text prefix line (Ok said) (text.advanced read said)
+    pub said_brings : (prefix : List (List ℕ)) (line : List ℕ) (read : P) (said : L) → IsPrefixOf text prefix read → line_in text (text.section read) (words line) ≡ Ok said
+        → LineBrings text prefix line (Ok said) (text.advanced read said)
     said_brings prefix line read said is ok = brings_by (text.is_last said) prefix line read said refl is (line_said text lawful.lines (text.section read) (words line) said ok)
 
     -- what an answer brings that is what the line says
-    pub answer_brings : (prefix : List (List ℕ)) (line : List ℕ) (from to : P) (answer : Result L WordFault) → SaysLine answer (line_in text (text.section from) (words line)) → IfOk answer (λ said. to ≡ text.advanced from said)
+    pub answer_brings : (prefix : List (List ℕ)) (line : List ℕ) (from to : P) (answer : Result L WordFault) → SaysLine answer (line_in text (text.section from) (words line))
+        → IfOk answer (λ said. to ≡ text.advanced from said)
         → IsPrefixOf text prefix from → LineBrings text prefix line answer to
     answer_brings prefix line from to (Ok said) says kept is =
         subst (λ (p : P). LineBrings text prefix line (Ok said) p) (sym kept) (said_brings prefix line from said is says)
@@ -154,7 +161,8 @@ module _ {S K L P V : Type 0} (text : SectionedText S K L P V) where
     goes_by true prefix others line said read brings later = brings others
     goes_by false prefix others line said read brings later = moved prefix others line read (later (prefix ++ line ∷ []) read brings.1)
 
-    reads_by : (said : Result L FormatKind) (prefix others : List (List ℕ)) (line : List ℕ) (read : P) → line_in text (text.section read) (words line) ≡ said → IsPrefixOf text prefix read → ReadSoAfter others
+    reads_by : (said : Result L FormatKind) (prefix others : List (List ℕ)) (line : List ℕ) (read : P) → line_in text (text.section read) (words line) ≡ said → IsPrefixOf text prefix read
+        → ReadSoAfter others
         → ReadsSo (prefix ++ line ∷ others) (said_from text read (length prefix + 1) said others (λ next. read_from text next (length prefix + 1 + 1) others))
     reads_by (Err kind) prefix others line read refused is later = prefix_refused prefix line read kind others is refused
     reads_by (Ok said) prefix others line read ok is later = goes_by (text.is_last said) prefix others line said (text.advanced read said) (said_brings prefix line read said is ok) later
@@ -169,7 +177,8 @@ module _ {S K L P V : Type 0} (text : SectionedText S K L P V) where
     pub lines_read : (all : List (List ℕ)) → ReadsSo all (read_from text text.initial 1 all)
     lines_read all = reads_after all [] text.initial refl
 
-    reads_text : (bytes : List ℕ) (answer : Result V TextFault) (read : Read) → ReadsSo (lines bytes) read → SaysText answer (value_part read) → IfOk answer (λ value. AreTextOf text bytes value) × IfErr answer (HasFirstFault text bytes)
+    reads_text : (bytes : List ℕ) (answer : Result V TextFault) (read : Read) → ReadsSo (lines bytes) read → SaysText answer (value_part read)
+        → IfOk answer (λ value. AreTextOf text bytes value) × IfErr answer (HasFirstFault text bytes)
     reads_text bytes (Ok value) (Ok read) reads says =
         let same : read.value ≡ value = cc in
         ((read.after, subst (λ (v : V). text.declares (lines bytes) v read.after) same reads), tt)
@@ -181,7 +190,8 @@ module _ {S K L P V : Type 0} (text : SectionedText S K L P V) where
     reads_text bytes (Err whole.OutOfMemory) read reads says = (tt, tt)
 
     -- an answer that is what is read of a text is in the grammar, or its first fault
-    pub answer_reads : (bytes : List ℕ) (answer : Result V TextFault) → SaysText answer (read_text text bytes) → IfOk answer (λ value. AreTextOf text bytes value) × IfErr answer (HasFirstFault text bytes)
+    pub answer_reads : (bytes : List ℕ) (answer : Result V TextFault) → SaysText answer (read_text text bytes)
+        → IfOk answer (λ value. AreTextOf text bytes value) × IfErr answer (HasFirstFault text bytes)
     answer_reads bytes answer says = reads_text bytes answer (read_from text text.initial 1 (lines bytes)) (lines_read (lines bytes)) says
 
     brought_by : (is_last : Bool) (prefix : List (List ℕ)) (line : List ℕ) (said : L) (read : P) → BringsBy text is_last prefix line said read → CanBecomeText text (prefix ++ line ∷ [])
@@ -212,7 +222,8 @@ module _ {S K L P V : Type 0} (text : SectionedText S K L P V) where
     fault_read all fault f =
         ap (read_from text text.initial 1) f.whole ∙ prefix_read f.prefix f.read f.reached f.rest ∙ rest_read f.prefix f.rest f.read fault f.place f.reached f.refused f.departs
 
-    either_by : (all : List (List ℕ)) (read : Read) → ReadsSo all read → ((value : V) × (after : List (List ℕ)) × text.declares all value after) ⊎ ((fault : FormatFault) × IsFirstFaultOf text all fault)
+    either_by : (all : List (List ℕ)) (read : Read) → ReadsSo all read
+        → ((value : V) × (after : List (List ℕ)) × text.declares all value after) ⊎ ((fault : FormatFault) × IsFirstFaultOf text all fault)
     either_by all (Ok read) reads = inl (read.value, read.after, reads)
     either_by all (Err fault) reads = inr (fault, reads)
 
@@ -234,6 +245,7 @@ module _ {S K L P V : Type 0} (text : SectionedText S K L P V) where
     }
 
     -- a text with a first fault is answered by it, unless memory ran out
-    pub answer_every_fault : (bytes : List ℕ) (answer : Result V TextFault) (fault : FormatFault) → SaysText answer (read_text text bytes) → IsFirstFaultOf text (lines bytes) fault → SaysText answer (Err fault)
+    pub answer_every_fault : (bytes : List ℕ) (answer : Result V TextFault) (fault : FormatFault) → SaysText answer (read_text text bytes) → IsFirstFaultOf text (lines bytes) fault
+        → SaysText answer (Err fault)
     answer_every_fault bytes answer fault says first =
         subst (SaysText answer) (ap value_part (fault_read (lines bytes) fault first)) says

@@ -70,7 +70,8 @@ module _ {S K L P V : Type 0} (given : SectionedText S K L P V) (spelling : Spel
     may : given.admits section (first_of said) ≡ true
     spelled : spelling.IsSpelled said
 
-  of_first : (section : S) (said : L) (line : Words) (first : K) (others : Words) → given.admits section first ≡ true → line ≡ given.spelled first ∷ others → Spell spelling said line → IsFilled section said line
+  of_first : (section : S) (said : L) (line : Words) (first : K) (others : Words) → given.admits section first ≡ true → line ≡ given.spelled first ∷ others → Spell spelling said line
+      → IsFilled section said line
   of_first section said line first others may same says =
       let filled : are_passed_over line ≡ false = ap are_passed_over same ∙ (laws.first first).filled in
       let (words, spelled) = these_words (spelling.words_of said) (spelling.IsSpelled said) line filled says in

@@ -12,12 +12,13 @@ use Rattle.net_model.specs.declared.format.WordFault.{WordFault}
 use Rattle.net_model.specs.declared.format.WordFault.TheVariants as word
 use Rattle.sectioned_texts.specs.FormFaults.{IsFaultAmong}
 
--- A text of lines in sections, of which `S` are the sections, `K` the first words, `L` what lines say, `P` what was read so far, and `V` the values.
--- `first_words`: all of them, and `spelled`: how one is written. `admits`: whether a line that begins with a word may come in a section. `form_of`: the form of
--- what follows a first word, or none if that is a header, and then `header`: what the header says, by the one word that follows. `IsHeader`: the words are those
--- of a header. `opens`: in this section the header must come. `says`: these words say this. `blank`: what a line says that is passed over. `is_last`: the text
--- ends with a line that says this. `initial`: before the first line. `section`: the section that is reached. `advanced`: with one line more. `value`: the value
--- of all that was read. `declares`: the lines begin with a text that declares a value, and the other lines stand after it.
+-- A text of lines in sections, of which `S` are the sections, `K` the first words, `L` what lines say, `P` what was read so far, and `V` the
+-- values. `first_words`: all of them, and `spelled`: how one is written. `admits`: whether a line that begins with a word may come in a
+-- section. `form_of`: the form of what follows a first word, or none if that is the first word of a header, and then `header`: what the
+-- header says, by the one word that follows. `IsHeader`: the words are those of a header. `opens`: in this section the header must come.
+-- `says`: these words say this. `blank`: what a line says that is passed over. `is_last`: the text ends with a line that says this.
+-- `initial`: before the first line. `section`: the section that is reached. `advanced`: with one line more. `value`: the value of all that
+-- was read. `declares`: the lines begin with a text that declares a value, and the other lines stand after it.
 pub record SectionedText (S K L P V : Type 0) : Type 1 where
   pub first_words : List K
   pub spelled : K → List ℕ
@@ -54,7 +55,8 @@ module _ {S K L P V : Type 0} (text : SectionedText S K L P V) where
   -- lines lead from what was read to what is read with them: each may come in its section, and none is the last one
   abbrev pub Lead : P → List (List ℕ) → P → Type 0
   Lead from [] to = from ≡ to
-  Lead from (line ∷ others) to = (said : L) × IsLineIn (text.section from) said (words line) × (text.is_last said ≡ false) × Lead (text.advanced from said) others to
+  Lead from (line ∷ others) to =
+      (said : L) × IsLineIn (text.section from) said (words line) × (text.is_last said ≡ false) × Lead (text.advanced from said) others to
 
   -- the prefix of a text: its lines lead to what is read of them
   abbrev pub IsPrefixOf : List (List ℕ) → P → Type 0

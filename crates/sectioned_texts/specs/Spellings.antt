@@ -2,8 +2,8 @@
 use Rattle.std.specs.Prelude.{◌≡◌, ℕ, true, List, [], ◌∷◌, ◌++◌, if◌then◌else◌}
 use Rattle.texts.specs.Words.{are_passed_over, words}
 
--- How a text is spelled. `words_of`: the words of a line by what it says, none if it is passed over. `IsSpelled`: what can be said so. `value_words`: the words of
--- the lines of a value. `end_words`: those of the last line. `IsSpelledValue`: which values can be spelled.
+-- How a text is spelled. `words_of`: the words of a line by what it says, none if it is passed over. `IsSpelled`: what can be said so.
+-- `value_words`: the words of the lines of a value. `end_words`: those of the last line. `IsSpelledValue`: which values can be spelled.
 pub record Spelling (L V : Type 0) : Type 1 where
   pub words_of : L → List (List ℕ)
   pub IsSpelled : L → Type 0

@@ -65,8 +65,8 @@ pub trait SectionReader: Drop {
     fn into_value(self) -> Self::Value
         ensures { result ≡ text.value self };
 
-    /// The law that what is read of a line is what its words say, and that what lines declare is
-    /// what they lead to.
+    /// The law that what is read of a line is what its words say, that what lines declare is what
+    /// they lead to, and that each prefix of a text can be continued.
     fn is_lawful()
         ensures { IsLawful text };
 }
