@@ -10,6 +10,7 @@ pub mod laws;
 mod limits;
 mod line;
 mod print;
+mod printed_line;
 mod read;
 mod reader;
 mod section;

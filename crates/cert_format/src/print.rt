@@ -1,23 +1,23 @@
 //! Printing a certificate.
 
-ghost use Rattle.std.specs.Prelude.{◌≡◌, ◌++◌, [], ◌≤◌, OnOk, IfOk, IfSome, IsTrue, All};
+ghost use Rattle.std.specs.Prelude.{◌≡◌, ◌++◌, OnOk, IfOk, IfSome, IsTrue, All, Ok};
 ghost use Rattle.std.specs.List.{flat_map};
 ghost use Rattle.std.specs.Fmt.{decimal};
 ghost use Rattle.net_model.specs.Names.{is_name};
-ghost use Rattle.texts.specs.PrintedLines.{after_blank, printed_line};
-ghost use Rattle.cert_format.specs.Limits.{most_line_number};
+ghost use Rattle.texts.specs.PrintedLines.{after_blank};
 ghost use Rattle.cert_format.specs.CertificateFormat.{certificate_text};
 ghost use Rattle.cert_format.specs.CertificateWords.{rule_word, operand_words, label_words};
-ghost use Rattle.cert_format.specs.CertificateWords.{line_words, walk_words, entry_word};
-ghost use Rattle.cert_format.specs.CertificateWords.{entry_words, order_words, printed_certificate};
-ghost use Rattle.cert_format.specs.CertificateWords.{IsEntryWeight, IsSpelledEntry, AreOperands};
-ghost use Rattle.cert_format.specs.CertificateWords.{HasWrittenWeight, IsSpelledLine, HasWeights};
+ghost use Rattle.cert_format.specs.CertificateWords.{entry_word, printed_certificate};
+ghost use Rattle.cert_format.specs.CertificateWords.{IsEntryWeight, AreOperands, HasWeights};
+ghost use Rattle.cert_format.specs.CertificateWords.{HasWrittenWeight};
+ghost use Rattle.cert_format.specs.declared.certificate.Certificate.TheVariants as Certificate;
 
 use crate::certificate::Certificate;
 use crate::entry::Entry;
 use crate::keyword::Keyword;
 use crate::kind::LineKind;
 use crate::line::CertLine;
+use crate::printed_line::{PrintedLine, push_lines, push_points};
 use net_model::Name;
 use std::alloc::{AllocError, Global};
 use texts::push_line;
@@ -51,8 +51,8 @@ fn print_refutation(alloc: Global, lines: &[CertLine], walk: &[u64]) -> Result<V
     let mut out = Vec::new(alloc);
     push_line(&mut out, b"certificate", &[b"1".as_slice()])?;
     push_line(&mut out, b"refutation", &[])?;
-    push_rules(alloc, &mut out, lines)?;
-    push_walk(alloc, &mut out, walk)?;
+    push_lines(alloc, &mut out, lines)?;
+    push_lines(alloc, &mut out, walk)?;
     push_line(&mut out, b"end", &[])?;
     Ok(out)
 }
@@ -67,48 +67,31 @@ fn print_table(alloc: Global, order: &[Name], entries: &[Entry]) -> Result<Vec<u
     let mut out = Vec::new(alloc);
     push_line(&mut out, b"certificate", &[b"1".as_slice()])?;
     push_line(&mut out, b"table", &[])?;
-    push_order(&mut out, order)?;
-    push_entries(alloc, &mut out, entries)?;
+    push_points(&mut out, b"order", order)?;
+    push_lines(alloc, &mut out, entries)?;
     push_line(&mut out, b"end", &[])?;
     Ok(out)
 }
 
-fn push_order(out: &mut Vec<u8>, order: &[Name]) -> Result<(), AllocError>
-    ensures text { OnOk result (out.new.items ≡ out.old.items ++ flat_map
-        (λ point. printed_line (order_words point)) order.now) }
-    ensures spelled { OnOk result (All (λ point. IsTrue (is_name point)) order.now) }
-{
-    for point in order {
-        push_line(out, b"order", &[point.bytes()])?;
-    }
-    Ok(())
-}
+impl PrintedLine for Entry {
+    ghost use Rattle.cert_format.specs.CertificateWords.{entry_words};
+    ghost use Rattle.cert_format.specs.CertificateWords.{IsEntryWeight, IsSpelledEntry};
 
-fn push_entries(alloc: Global, out: &mut Vec<u8>, entries: &[Entry]) -> Result<(), AllocError>
-    requires { All IsEntryWeight entries.now }
-    ensures text { OnOk result (out.new.items ≡ out.old.items ++ flat_map
-        (λ entry. printed_line (entry_words entry)) entries.now) }
-    ensures spelled { OnOk result (All IsSpelledEntry entries.now) }
-{
-    for entry in entries {
-        push_entry(alloc, out, entry)?;
-    }
-    Ok(())
-}
+    ghost words_of = { entry_words };
 
-fn push_entry(alloc: Global, out: &mut Vec<u8>, entry: &Entry) -> Result<(), AllocError>
-    requires { IsEntryWeight entry.now }
-    ensures text { OnOk result (out.new.items ≡ out.old.items ++ printed_line
-        (entry_words entry.now)) }
-    ensures spelled { OnOk result (IsSpelledEntry entry.now) }
-{
-    out.extend_from_slice(entry_word(&entry.label).spelled())?;
-    push_word(out, entry.from.bytes())?;
-    push_label(out, &entry.to)?;
-    push_label(out, &entry.label)?;
-    push_word(out, entry.weight.to_string(alloc)?.as_bytes())?;
-    out.push(b'\n')?;
-    Ok(())
+    ghost has_limits = { IsEntryWeight };
+
+    ghost is_spelled = { IsSpelledEntry };
+
+    fn push(&self, alloc: Global, out: &mut Vec<u8>) -> Result<(), AllocError> {
+        out.extend_from_slice(entry_word(&self.label).spelled())?;
+        push_word(out, self.from.bytes())?;
+        push_label(out, &self.to)?;
+        push_label(out, &self.label)?;
+        push_word(out, self.weight.to_string(alloc)?.as_bytes())?;
+        out.push(b'\n')?;
+        Ok(())
+    }
 }
 
 /// The first word of an entry, by its label.
@@ -121,32 +104,44 @@ fn entry_word(label: &Option<Name>) -> Keyword
     }
 }
 
-fn push_rules(alloc: Global, out: &mut Vec<u8>, lines: &[CertLine]) -> Result<(), AllocError>
-    requires { All HasWrittenWeight lines.now }
-    ensures text { OnOk result (out.new.items ≡ out.old.items ++ flat_map
-        (λ line. printed_line (line_words line)) lines.now) }
-    ensures spelled { OnOk result (All IsSpelledLine lines.now) }
-{
-    for line in lines {
-        push_rule(alloc, out, line)?;
+impl PrintedLine for CertLine {
+    ghost use Rattle.cert_format.specs.CertificateWords.{line_words};
+    ghost use Rattle.cert_format.specs.CertificateWords.{HasWrittenWeight, IsSpelledLine};
+
+    ghost words_of = { line_words };
+
+    ghost has_limits = { HasWrittenWeight };
+
+    ghost is_spelled = { IsSpelledLine };
+
+    fn push(&self, alloc: Global, out: &mut Vec<u8>) -> Result<(), AllocError> {
+        out.extend_from_slice(rule_word(&self.kind).spelled())?;
+        push_operands(alloc, out, &self.kind)?;
+        push_word(out, self.from.bytes())?;
+        push_word(out, self.to.bytes())?;
+        push_label(out, &self.label)?;
+        push_word(out, self.weight.to_string(alloc)?.as_bytes())?;
+        out.push(b'\n')?;
+        Ok(())
     }
-    Ok(())
 }
 
-fn push_rule(alloc: Global, out: &mut Vec<u8>, line: &CertLine) -> Result<(), AllocError>
-    requires { HasWrittenWeight line.now }
-    ensures text { OnOk result (out.new.items ≡ out.old.items ++ printed_line
-        (line_words line.now)) }
-    ensures spelled { OnOk result (IsSpelledLine line.now) }
-{
-    out.extend_from_slice(rule_word(&line.kind).spelled())?;
-    push_operands(alloc, out, &line.kind)?;
-    push_word(out, line.from.bytes())?;
-    push_word(out, line.to.bytes())?;
-    push_label(out, &line.label)?;
-    push_word(out, line.weight.to_string(alloc)?.as_bytes())?;
-    out.push(b'\n')?;
-    Ok(())
+/// The number of a line, as a line of a walk.
+impl PrintedLine for u64 {
+    ghost use Rattle.std.specs.Prelude.{◌≤◌};
+    ghost use Rattle.cert_format.specs.CertificateWords.{walk_words};
+    ghost use Rattle.cert_format.specs.Limits.{most_line_number};
+
+    ghost words_of = { walk_words };
+
+    ghost has_limits = { λ number. Unit {0} };
+
+    ghost is_spelled = { λ number. number ≤ most_line_number };
+
+    fn push(&self, alloc: Global, out: &mut Vec<u8>) -> Result<(), AllocError> {
+        let number = *self;
+        push_line(out, b"walk", &[number.to_string(alloc)?.as_bytes()])
+    }
 }
 
 /// The first word of a rule line.
@@ -193,17 +188,6 @@ fn push_label(out: &mut Vec<u8>, label: &Option<Name>) -> Result<(), AllocError>
         None => Ok(()),
         Some(label) => push_word(out, label.bytes()),
     }
-}
-
-fn push_walk(alloc: Global, out: &mut Vec<u8>, walk: &[u64]) -> Result<(), AllocError>
-    ensures text { OnOk result (out.new.items ≡ out.old.items ++ flat_map
-        (λ i. printed_line (walk_words i)) walk.now) }
-    ensures spelled { OnOk result (All (λ i. i ≤ most_line_number) walk.now) }
-{
-    for number in walk {
-        push_line(out, b"walk", &[number.to_string(alloc)?.as_bytes()])?;
-    }
-    Ok(())
 }
 
 fn push_number(alloc: Global, out: &mut Vec<u8>, number: u64) -> Result<(), AllocError>

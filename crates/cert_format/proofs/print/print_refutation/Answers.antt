@@ -8,11 +8,11 @@ use Rattle.cert_format.proofs.print.print_refutation.Goals as goal
 
 text_is : (c : goal.In_ok-push_line-3) → c.push_line-3.new.out.items ≡ printed_certificate (Refutation c.args.lines.now c.args.walk.now)
 text_is c =
-    rw (c.in_ok-push_line-3.ensures, c.in_ok-push_walk.ensures.text, c.in_ok-push_rules.ensures.text, c.in_ok-push_line-2.ensures, c.in_ok-push_line.ensures, c.new-out.ensures.items, c.as_slice.ensures)
+    rw (c.in_ok-push_line-3.ensures, c.in_ok-push_lines-2.ensures.text, c.in_ok-push_lines.ensures.text, c.in_ok-push_line-2.ensures, c.in_ok-push_line.ensures, c.new-out.ensures.items, c.as_slice.ensures)
     (printed_pieces c.args.lines.now c.args.walk.now)
 
 pub returns : goal.returns
 returns c = record {
   text = text_is c;
-  back = ap certificate_text (text_is c) ∙ printed_read (Refutation c.args.lines.now c.args.walk.now) (c.in_ok-push_rules.ensures.spelled, c.in_ok-push_walk.ensures.spelled);
+  back = ap certificate_text (text_is c) ∙ printed_read (Refutation c.args.lines.now c.args.walk.now) (c.in_ok-push_lines.ensures.spelled, c.in_ok-push_lines-2.ensures.spelled);
 }
