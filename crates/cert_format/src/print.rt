@@ -10,7 +10,6 @@ ghost use Rattle.cert_format.specs.CertificateWords.{rule_word, operand_words, l
 ghost use Rattle.cert_format.specs.CertificateWords.{entry_word, printed_certificate};
 ghost use Rattle.cert_format.specs.CertificateWords.{IsEntryWeight, AreOperands, HasWeights};
 ghost use Rattle.cert_format.specs.CertificateWords.{HasWrittenWeight};
-ghost use Rattle.cert_format.specs.declared.certificate.Certificate.TheVariants as Certificate;
 
 use crate::certificate::Certificate;
 use crate::entry::Entry;
