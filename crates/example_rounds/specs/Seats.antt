@@ -4,7 +4,7 @@ use Rattle.work_board.specs.Boards.{BoardSeatSeen}
 
 -- all but what it owns and how often it found that there is nothing left
 pub record SameSeat (before after : BoardSeatSeen) : Type 0 where
-  pub board : after.board ≡ before.board
+  pub board : after.table ≡ before.table
   pub targets : after.view.targets ≡ before.view.targets
   pub drawer : after.view.drawer ≡ before.view.drawer
   pub out : after.view.out ≡ before.view.out

@@ -17,7 +17,7 @@ pub record IsRowOfDraw (net : Plan) (table : Graph) (targets : List PointId) (dr
 
 -- a seat drew these, one after another, and found so often that there was nothing left; all else stays
 pub record HasDrawn (before after : BoardSeatSeen) (draws : List Draw) (nones : ℕ) : Type 0 where
-  pub after_is : after ≡ record { board = before.board; view = record before.view { held = before.view.held ++ draws; nones = nones } }
+  pub after_is : after ≡ record { table = before.table; view = record before.view { held = before.view.held ++ draws; nones = nones } }
   pub own : All (λ (draw : Draw). draw.drawer ≡ before.view.drawer) draws
 
 -- a worker did its part: its seat drew until there was nothing left, and the rows are those of the targets drawn, in the order of drawing

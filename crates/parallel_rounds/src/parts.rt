@@ -136,7 +136,7 @@ fn join_part(board: &Board, all: &mut WorkerPart, part: WorkerPart) -> Result<()
     requires seats { IsSeatOfBoard board.now all.old.seat × IsSeatOfBoard board.now part.seat }
     requires out { 0 < all.old.seat.view.out }
     ensures seat { OnOk result (all.new.seat ≡ record {
-      board = all.old.seat.board;
+      table = all.old.seat.table;
       view = joined_with all.old.seat.view part.seat.view;
     }) }
     ensures rows { OnOk result (all.new.rows.items ≡ all.old.rows.items ++ part.rows.items) }

@@ -1,4 +1,4 @@
-pub mod Totals
+pub mod DrawLemmas
 pub mod StepLemmas
 pub mod RuleLemmas
 pub mod TableLemmas

@@ -6,15 +6,17 @@ use Rattle.std.proofs.lemmas.Bool.{cases_lt, cases_eq, le-ltb}
 use Rattle.std.proofs.lemmas.List.Elements.{All-nil, All-cons}
 use mathlib.Core.Option.{some}
 use lib.ListN.{get_elem?}
+use Rattle.shared_seats.specs.Standings.{total_of_live, OfLive}
+use Rattle.shared_seats.specs.declared.standing.Standing.{Standing}
+use Rattle.shared_seats.specs.declared.standing.Standing.TheVariants.{Live, Spent}
+use Rattle.shared_seats.proofs.StandingLemmas.{total_set, total_at, total_plus, total_le, total_zero}
 use Rattle.work_board.specs.BoardHistory.{BoardHistory, make, split, draw, join}
-use Rattle.work_board.specs.BoardRule.{total_of_live, times_drawn, once_below, has_number, OfLive, IsSeat, next_drawer, BoardRule, HistoriesKeepTheRule}
+use Rattle.work_board.specs.BoardRule.{times_drawn, once_below, has_number, IsSeat, next_drawer, BoardRule, HistoriesKeepTheRule}
 use Rattle.work_board.specs.Views.{first_view, drawn}
 use Rattle.work_board.specs.declared.view.Draw.{Draw}
 use Rattle.work_board.specs.declared.view.Size.{Size}
-use Rattle.work_board.specs.declared.view.Standing.{Standing}
-use Rattle.work_board.specs.declared.view.Standing.TheVariants.{Live, Spent}
 use Rattle.work_board.specs.declared.view.View.{View}
-use Rattle.work_board.proofs.Totals.{total_set, total_at, total_plus, total_le, total_zero, all_of_times}
+use Rattle.work_board.proofs.DrawLemmas.{all_of_times}
 use Rattle.work_board.proofs.StepLemmas.{all_of_first, split_total, split_keeps, draw_total, drawn_heard_end, draw_keeps, join_total, join_keeps}
 
 module _ (size : Size) where
@@ -43,7 +45,7 @@ module _ (size : Size) where
   }
 
   -- by the steps of the history
-  pub keeps : 0 < size.seats → (number : ℕ) (standings : List Standing) → BoardHistory size number standings → BoardRule size number standings
+  pub keeps : 0 < size.seats → (number : ℕ) (standings : List (Standing View)) → BoardHistory size number standings → BoardRule size number standings
   keeps seats _ _ (make views is) = subst (BoardRule size 0) (sym is) (make_keeps seats)
   keeps seats _ _ (split number before after seat view history at may is) =
       subst (BoardRule size number) (sym is) (split_keeps size number before (keeps seats number before history) seat view at may)
@@ -59,7 +61,7 @@ every_history_keeps size number standings seats history = keeps size seats numbe
 
 module _ (size : Size) (seats : 0 < size.seats) where
   -- a draw raises the number by one: either it is below the count of targets, or there was nothing left once more
-  draw_bounded : (number : ℕ) (before : List Standing) (history : BoardHistory size number before) (seat : ℕ) (view : View) → get_elem? before seat ≡ some (Live view)
+  draw_bounded : (number : ℕ) (before : List (Standing View)) (history : BoardHistory size number before) (seat : ℕ) (view : View) → get_elem? before seat ≡ some (Live view)
       → number ≤ size.targets + total_of_live (λ view. view.nones) before → number + 1 ≤ size.targets + total_of_live (λ view. view.nones) (set before seat (Live (drawn view number)))
   draw_bounded number before history seat view at bound =
       let rule = keeps size seats number before history in
@@ -70,30 +72,30 @@ module _ (size : Size) (seats : 0 < size.seats) where
       ]
 
   -- the number of a board is at most the count of targets, and how often there was nothing left
-  bounded : (number : ℕ) (standings : List Standing) → BoardHistory size number standings → number ≤ size.targets + total_of_live (λ view. view.nones) standings
+  bounded : (number : ℕ) (standings : List (Standing View)) → BoardHistory size number standings → number ≤ size.targets + total_of_live (λ view. view.nones) standings
   bounded _ _ (make views is) = omega arith
   bounded _ _ (split number before after seat view history at may is) =
       let before_bound = bounded number before history in
       let s = split_total size number before (keeps size seats number before history) seat view at may (λ view. view.nones) in
-      subst (λ (l : List Standing). number ≤ size.targets + total_of_live (λ view. view.nones) l) (sym is) (omega arith)
+      subst (λ (l : List (Standing View)). number ≤ size.targets + total_of_live (λ view. view.nones) l) (sym is) (omega arith)
   bounded _ _ (draw number next before after seat view history at untold one_more is) =
       subst (λ (n : ℕ). n ≤ size.targets + total_of_live (λ view. view.nones) after) (sym one_more)
-      (subst (λ (l : List Standing). number + 1 ≤ size.targets + total_of_live (λ view. view.nones) l) (sym is) (draw_bounded number before history seat view at (bounded number before history)))
+      (subst (λ (l : List (Standing View)). number + 1 ≤ size.targets + total_of_live (λ view. view.nones) l) (sym is) (draw_bounded number before history seat view at (bounded number before history)))
   bounded _ _ (join number before after seat other view joining history at there apart some_out is) =
       let before_bound = bounded number before history in
       let s = join_total size number before (keeps size seats number before history) seat view at other joining there apart some_out (λ view. view.nones) in
-      subst (λ (l : List Standing). number ≤ size.targets + total_of_live (λ view. view.nones) l) (sym is) (omega arith)
+      subst (λ (l : List (Standing View)). number ≤ size.targets + total_of_live (λ view. view.nones) l) (sym is) (omega arith)
 
-  heard_end_standing : (next : ℕ) (standing : Standing) → OfLive (IsSeat size next) standing → OfLive (λ view. view.nones ≤ view.joined + 1) standing
+  heard_end_standing : (next : ℕ) (standing : Standing View) → OfLive (IsSeat size next) standing → OfLive (λ view. view.nones ≤ view.joined + 1) standing
   heard_end_standing next (Live view) is = is.heard_end_once
   heard_end_standing next Spent is = is
 
-  spare_standing : (standing : Standing) → OfLive (λ view. view.out + view.joined ≤ view.out + view.joined + view.to_split) standing
+  spare_standing : (standing : Standing View) → OfLive (λ view. view.out + view.joined ≤ view.out + view.joined + view.to_split) standing
   spare_standing (Live view) = omega arith
   spare_standing Spent = tt
 
   -- the number of a board is at most the count of targets and the count of seats
-  pub few : (number : ℕ) (standings : List Standing) → BoardHistory size number standings → number ≤ size.targets + size.seats
+  pub few : (number : ℕ) (standings : List (Standing View)) → BoardHistory size number standings → number ≤ size.targets + size.seats
   few number standings history =
       let rule = keeps size seats number standings history in
       let bound = bounded number standings history in
@@ -109,7 +111,7 @@ below_of_once number bound there = elim (cases_lt number bound) [
   | inr above ↦ let none : once_below number bound ≡ 0 = ap (λ b. cond {A = ℕ} b 1 0) (le-ltb number bound above) in absurd (omega arith)
 ]
 
-module _ (size : Size) (number : ℕ) (standings : List Standing) (rule : BoardRule size number standings) (seat : ℕ) (view : View) (at : get_elem? standings seat ≡ some (Live view)) where
+module _ (size : Size) (number : ℕ) (standings : List (Standing View)) (rule : BoardRule size number standings) (seat : ℕ) (view : View) (at : get_elem? standings seat ≡ some (Live view)) where
   -- the number of a board is above all that a seat holds
   pub above_held : All (λ (draw : Draw). draw.number < number) view.held
   above_held = all_of_times number view.held (λ held some.
@@ -124,7 +126,7 @@ module _ (size : Size) (number : ℕ) (standings : List Standing) (rule : BoardR
     none_else : total_of_live (λ _. 1) (set standings seat Spent) ≡ 0
     none_else = let s = total_set (λ _. 1) standings seat (Live view) Spent at in let others = rule.others in let zero_there = zero_out in omega arith
 
-    counts_nothing : (f : View → ℕ) (standing : Standing) → OfLive (λ other. ◌≡◌ {A = ℕ} 1 0 → f other ≡ 0) standing
+    counts_nothing : (f : View → ℕ) (standing : Standing View) → OfLive (λ other. ◌≡◌ {A = ℕ} 1 0 → f other ≡ 0) standing
     counts_nothing f (Live other) = λ never. absurd (omega arith)
     counts_nothing f Spent = tt
 

@@ -7,14 +7,16 @@ use Rattle.std.proofs.lemmas.List.Elements.{All-nil, All-set, All-push, All-appe
 use mathlib.Core.Option.{some}
 use lib.ListN.{get_elem?}
 use Rattle.atomic_table.proofs.Lists.{set_else}
-use Rattle.work_board.specs.BoardRule.{total_of_live, times_drawn, once_below, has_number, OfLive, IsSeat, next_drawer, BoardRule}
+use Rattle.shared_seats.specs.Standings.{total_of_live, OfLive}
+use Rattle.shared_seats.specs.declared.standing.Standing.{Standing}
+use Rattle.shared_seats.specs.declared.standing.Standing.TheVariants.{Live, Spent}
+use Rattle.shared_seats.proofs.StandingLemmas.{all_at, total_set, total_snoc, total_at, total_none, total_zero}
+use Rattle.work_board.specs.BoardRule.{times_drawn, once_below, has_number, IsSeat, next_drawer, BoardRule}
 use Rattle.work_board.specs.Views.{split_from, split_off, drawn, joined_with}
 use Rattle.work_board.specs.declared.view.Draw.{Draw}
 use Rattle.work_board.specs.declared.view.Size.{Size}
-use Rattle.work_board.specs.declared.view.Standing.{Standing}
-use Rattle.work_board.specs.declared.view.Standing.TheVariants.{Live, Spent}
 use Rattle.work_board.specs.declared.view.View.{View}
-use Rattle.work_board.proofs.Totals.{all_at, total_set, total_snoc, total_at, total_none, total_zero, times_snoc, times_append, once_more}
+use Rattle.work_board.proofs.DrawLemmas.{times_snoc, times_append, once_more}
 
 -- what seats know stays true if there are more numbers of seats
 drew_more : (next later : ℕ) → next ≤ later → (draws : List Draw) → All (λ (draw : Draw). draw.drawer < next) draws → All (λ (draw : Draw). draw.drawer < later) draws
@@ -29,14 +31,14 @@ seat_more size next later more view seat = record {
   drew = drew_more next later more view.held seat.drew;
 }
 
-standing_more : (size : Size) (next later : ℕ) → next ≤ later → (standing : Standing) → OfLive (IsSeat size next) standing → OfLive (IsSeat size later) standing
+standing_more : (size : Size) (next later : ℕ) → next ≤ later → (standing : Standing View) → OfLive (IsSeat size next) standing → OfLive (IsSeat size later) standing
 standing_more size next later more (Live view) seat = seat_more size next later more view seat
 standing_more size next later more Spent seat = seat
 
-each_more : (size : Size) (next later : ℕ) → next ≤ later → (l : List Standing) → All (OfLive (IsSeat size next)) l → All (OfLive (IsSeat size later)) l
+each_more : (size : Size) (next later : ℕ) → next ≤ later → (l : List (Standing View)) → All (OfLive (IsSeat size next)) l → All (OfLive (IsSeat size later)) l
 each_more size next later more l all k d lt = standing_more size next later more (get_or l k d) (all k d lt)
 
-module _ (size : Size) (number : ℕ) (before : List Standing) (rule : BoardRule size number before) (seat : ℕ) (view : View) (at : get_elem? before seat ≡ some (Live view)) where
+module _ (size : Size) (number : ℕ) (before : List (Standing View)) (rule : BoardRule size number before) (seat : ℕ) (view : View) (at : get_elem? before seat ≡ some (Live view)) where
   seat_is : IsSeat size (next_drawer before) view
   seat_is = all_at (OfLive (IsSeat size (next_drawer before))) before seat (Live view) at rule.each
 
@@ -60,24 +62,24 @@ module _ (size : Size) (number : ℕ) (before : List Standing) (rule : BoardRule
       let others = All-set (OfLive (IsSeat size (next_drawer before))) before seat Spent tt rule.each in
       let rest = total_zero f (has_number 0) (set before seat Spent) (each_zero (set before seat Spent) others) (none_other_first first) in omega arith
     where
-      standing_zero : (standing : Standing) → OfLive (IsSeat size (next_drawer before)) standing → OfLive (λ other. has_number 0 other ≡ 0 → f other ≡ 0) standing
+      standing_zero : (standing : Standing View) → OfLive (IsSeat size (next_drawer before)) standing → OfLive (λ other. has_number 0 other ≡ 0 → f other ≡ 0) standing
       standing_zero (Live other) is = λ none. zero_else other is (λ e. let one : has_number 0 other ≡ 1 = ap (λ b. cond {A = ℕ} b 1 0) (eq-eqb other.drawer 0 e) in omega arith)
       standing_zero Spent is = tt
 
-      each_zero : (l : List Standing) → All (OfLive (IsSeat size (next_drawer before))) l → All (OfLive (λ other. has_number 0 other ≡ 0 → f other ≡ 0)) l
+      each_zero : (l : List (Standing View)) → All (OfLive (IsSeat size (next_drawer before))) l → All (OfLive (λ other. has_number 0 other ≡ 0 → f other ≡ 0)) l
       each_zero l all k d lt = standing_zero (get_or l k d) (all k d lt)
 
   -- no seat has a number yet that the next seats will have
   none_numbered : (drawer : ℕ) → next_drawer before ≤ drawer → total_of_live (has_number drawer) before ≡ 0
   none_numbered drawer later = total_none (has_number drawer) before (λ k d lt. unnumbered (get_or before k d) (rule.each k d lt))
     where
-      unnumbered : (standing : Standing) → OfLive (IsSeat size (next_drawer before)) standing → OfLive (λ other. has_number drawer other ≡ 0) standing
+      unnumbered : (standing : Standing View) → OfLive (IsSeat size (next_drawer before)) standing → OfLive (λ other. has_number drawer other ≡ 0) standing
       unnumbered (Live other) is = ap (λ b. cond {A = ℕ} b 1 0) (ne_eqb other.drawer drawer (λ e. let less = is.numbered in omega arith))
       unnumbered Spent is = tt
 
   -- ---- a seat is split from another
   module _ (may : 0 < view.to_split) where
-    abbrev after_split : List Standing
+    abbrev after_split : List (Standing View)
     after_split = set before seat (Live (split_from view)) ++ Live (split_off view) ∷ []
 
     split_first : view.drawer ≡ 0
@@ -213,7 +215,7 @@ module _ (size : Size) (number : ℕ) (before : List Standing) (rule : BoardRule
 
   -- ---- a seat is joined into another
   module _ (other : ℕ) (joining : View) (there : get_elem? before other ≡ some (Live joining)) (apart : other ≢ seat) (some_out : 0 < view.out) where
-    abbrev after_join : List Standing
+    abbrev after_join : List (Standing View)
     after_join = set (set before seat (Live (joined_with view joining))) other Spent
 
     join_first : view.drawer ≡ 0

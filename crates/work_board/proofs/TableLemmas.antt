@@ -1,78 +1,60 @@
--- The steps of a board's table keep the rule of the table, and what its end shows.
-use Rattle.std.proofs.Common.{◌≡◌, ℕ, ◌+◌, ◌%◌, ◌^◌, ◌<◌, List, [], ◌∷◌, get_or, set, sym, refl, ap, ◌∙◌, subst, arith}
-use mathlib.Core.Option.{none, some}
-use lib.ListN.{get_elem?}
-use Rattle.atomic_table.specs.Table.{State, Me, step, keeps, opening, Allows, Splits, Joins}
-use Rattle.atomic_table.proofs.Lists.{set_else}
+-- The steps of a board's word keep its rule, and what its end shows.
+use Rattle.std.proofs.Common.{◌≡◌, ℕ, ◌+◌, ◌%◌, ◌^◌, ◌<◌, List, [], ◌∷◌, get_or, set, Bool, true, false, sym, refl, ap, subst, arith}
+use Rattle.std.specs.Prelude.{if◌then◌else◌}
+use Rattle.shared_seats.specs.Steps.{MayStep, MaySplit, MayJoin, IsLast}
+use Rattle.shared_seats.specs.declared.standing.Standing.TheVariants.{Live}
 use Rattle.work_board.specs.BoardHistory.{BoardHistory, make, split, draw, join}
-use Rattle.work_board.specs.Boards.{BoardSeatSeen, EachOnce}
-use Rattle.work_board.specs.Steps.{IsSize, IsReachedBy, drew, left_of, right_of, both_of}
+use Rattle.work_board.specs.Boards.{EachOnce}
+use Rattle.work_board.specs.Steps.{IsSize, IsReachedBy, IsDrawn}
 use Rattle.work_board.specs.Views.{first_view, split_from, split_off, drawn, joined_with}
 use Rattle.work_board.specs.declared.view.Size.{Size}
-use Rattle.work_board.specs.declared.view.Standing.{Standing}
-use Rattle.work_board.specs.declared.view.Standing.TheVariants.{Live, Spent}
 use Rattle.work_board.specs.declared.view.View.{View}
 use Rattle.work_board.proofs.RuleLemmas.{few, above_held, each_once, every_history_keeps}
 
 module _ (size : Size) where
-  abbrev Mine : Type 0
-  Mine = Me (Unit {0}) Standing
-
-  -- the table of a board that was just made
-  pub opens : IsSize size → IsReachedBy size (opening {S = Unit {0}} (0 ∷ []) [] (Live (first_view size)))
+  -- the word of a board that was just made
+  pub opens : IsSize size → IsReachedBy size (0 ∷ []) (Live (first_view size) ∷ [])
   opens sized = record { sized = sized; number = 0; word = refl; history = make _ refl }
 
   -- a seat is split from another
-  split_live : (id : ℕ) (view : View) → 0 < view.to_split → Splits (IsReachedBy size) id (Live view) (Live (split_from view)) (Live (split_off view))
-  split_live id view may s reached at = record { sized = reached.sized; number = reached.number; word = reached.word; history = split reached.number s.views _ id view reached.history at may refl }
+  pub splits : (view : View) → 0 < view.to_split → MaySplit (IsReachedBy size) view (split_from view) (split_off view)
+  splits view may words seats seat reached at = record { sized = reached.sized; number = reached.number; word = reached.word; history = split reached.number seats _ seat view reached.history at may refl }
 
-  pub splits : (id : ℕ) (me : Standing) (view : View) → me ≡ Live view → 0 < view.to_split → Splits (IsReachedBy size) id me (left_of me) (right_of me)
-  splits id me view live may = subst (λ (m : Standing). Splits (IsReachedBy size) id m (left_of m) (right_of m)) (sym live) (split_live id view may)
+  -- a draw leaves the count of seats that may be split
+  if_same : (b : Bool) (taken told : View) → taken.to_split ≡ told.to_split → (if b then taken else told).to_split ≡ told.to_split
+  if_same true taken told same = same
+  if_same false taken told same = refl
 
   -- a draw: the word is at most the count of targets and 64, so it does not wrap
-  draw_live : (slots id : ℕ) (view : View) → view.nones ≡ 0
-      → Allows (IsReachedBy size) slots id (Live view, []) 0 (λ n. (n + 1) % 2 ^ 64) (drew (step slots 0 1 0 none) (Live view, []))
-  draw_live slots id view untold s reached _ at small =
-      let found : ℕ = get_or s.words 0 0 in
+  pub draws : (view : View) → view.nones ≡ 0 → MayStep (IsReachedBy size) (λ (v : View). v.to_split) 0 (λ word. (word + 1) % 2 ^ 64) view (IsDrawn view)
+  draws view untold words seats seat reached at small =
+      let found : ℕ = get_or words 0 0 in
       let is : found ≡ reached.number = ap (λ (ws : List ℕ). get_or ws 0 0) reached.word in
-      let most = few size reached.sized.some reached.number s.views reached.history in
-      let seats = reached.sized.few in let targets = reached.sized.targets in
+      let most = few size reached.sized.some reached.number seats reached.history in
+      let count = reached.sized.few in let targets = reached.sized.targets in
       let next : (found + 1) % 2 ^ 64 ≡ found + 1 = omega arith in
-      let history : BoardHistory size found s.views = subst (λ (n : ℕ). BoardHistory size n s.views) (sym is) reached.history in (
-        Live (drawn view found),
-        keeps,
-        tt,
+      let history : BoardHistory size found seats = subst (λ (n : ℕ). BoardHistory size n seats) (sym is) reached.history in (
+        drawn view found,
         record {
           sized = reached.sized;
           number = (found + 1) % 2 ^ 64;
           word = ap (λ (ws : List ℕ). set ws 0 ((found + 1) % 2 ^ 64)) reached.word;
-          history = draw found ((found + 1) % 2 ^ 64) s.views _ id view history at untold next refl;
+          history = draw found ((found + 1) % 2 ^ 64) seats _ seat view history at untold next refl;
         },
-        record { view = view; was = refl; above = above_held size found s.views (every_history_keeps size found s.views reached.sized.some history) id view at; is = refl },
+        if_same _ _ _ refl,
+        record { above = above_held size found seats (every_history_keeps size found seats reached.sized.some history) seat view at; is = refl },
       )
 
-  pub draws : (slots id : ℕ) (me : Mine) (view : View) → me ≡ (Live view, []) → view.nones ≡ 0
-      → Allows (IsReachedBy size) slots id me 0 (λ n. (n + 1) % 2 ^ 64) (drew (step slots 0 1 0 none) me)
-  draws slots id me view live untold = subst (λ (m : Mine). Allows (IsReachedBy size) slots id m 0 (λ n. (n + 1) % 2 ^ 64) (drew (step slots 0 1 0 none) m)) (sym live) (draw_live slots id view untold)
-
   -- a seat is joined into another
-  join_live : (id other : ℕ) (view joining : View) → 0 < view.out → Joins (IsReachedBy size) id (Live view) other (Live joining) (Live (joined_with view joining)) Spent
-  join_live id other view joining some_out s reached at apart there = record {
+  pub joins : (view joining : View) → 0 < view.out → MayJoin (IsReachedBy size) view joining (joined_with view joining)
+  joins view joining some_out words seats seat other reached at there apart = record {
     sized = reached.sized;
     number = reached.number;
     word = reached.word;
-    history = join reached.number s.views _ id other view joining reached.history at (sym (set_else s.views id other (Live (joined_with view joining)) apart) ∙ there) apart some_out refl;
+    history = join reached.number seats _ seat other view joining reached.history at there apart some_out refl;
   }
 
-  pub joins : (id other : ℕ) (me its : Standing) (view joining : View) → me ≡ Live view → its ≡ Live joining → 0 < view.out → Joins (IsReachedBy size) id me other its (both_of me its) Spent
-  joins id other me its view joining live there some_out =
-      subst (λ (m : Standing). Joins (IsReachedBy size) id m other its (both_of m its) Spent) (sym live)
-      (subst (λ (w : Standing). Joins (IsReachedBy size) id (Live view) other w (both_of (Live view) w) Spent) (sym there) (join_live id other view joining some_out))
-
--- if some history reached a state in which the first seat, with no other out, drew when there was nothing left, it has each number once
-pub closes : (size : Size) (seat : BoardSeatSeen) (id : ℕ) (me : Standing) (view : View) → me ≡ Live view → view ≡ seat.view → seat.view.drawer ≡ 0 → seat.view.out ≡ 0 → 0 < seat.view.nones
-    → (s : State (Unit {0}) Standing) → IsReachedBy size s → get_elem? s.views id ≡ some me → EachOnce size.targets seat.view.held
-closes size seat id me view live is first out told s reached at =
-    subst (λ (v : View). EachOnce size.targets v.held) is
-    (let rule = every_history_keeps size reached.number s.views reached.sized.some reached.history in
-    each_once size reached.number s.views rule id view (at ∙ ap some live) (ap (λ (v : View). v.drawer) is ∙ first) (ap (λ (v : View). v.out) is ∙ out) (subst (λ (v : View). 0 < v.nones) (sym is) told))
+  -- if the first seat, with no other out, drew when there was nothing left, it has each number once at the end
+  pub closes : (view : View) (words : List ℕ) → IsLast (IsReachedBy size) view words → view.drawer ≡ 0 → view.out ≡ 0 → 0 < view.nones → EachOnce size.targets view.held
+  closes view words last first out told =
+      each_once size last.rule.number last.seats (every_history_keeps size last.rule.number last.seats last.rule.sized.some last.rule.history) last.seat view last.at first out told

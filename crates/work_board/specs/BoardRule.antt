@@ -1,22 +1,12 @@
 -- The rule of a board: what holds after every history of steps.
-use Rattle.std.specs.Prelude.{◌≡◌, ◌≢◌, ◌==◌, ℕ, ◌+◌, ◌<◌, ◌≤◌, min, List, [], ◌∷◌, length, nat_lt, count_by, if◌then◌else◌}
+use Rattle.std.specs.Prelude.{◌≡◌, ◌≢◌, ◌==◌, ℕ, ◌+◌, ◌<◌, ◌≤◌, min, List, length, nat_lt, count_by, if◌then◌else◌}
 use Rattle.std.specs.List.{All}
+use Rattle.shared_seats.specs.Standings.{OfLive, total_of_live}
+use Rattle.shared_seats.specs.declared.standing.Standing.{Standing}
 use Rattle.work_board.specs.BoardHistory.{BoardHistory}
 use Rattle.work_board.specs.declared.view.Draw.{Draw}
 use Rattle.work_board.specs.declared.view.Size.{Size}
-use Rattle.work_board.specs.declared.view.Standing.{Standing}
-use Rattle.work_board.specs.declared.view.Standing.TheVariants.{Live, Spent}
 use Rattle.work_board.specs.declared.view.View.{View}
-
--- a count of what a live seat knows; a seat that was joined into another counts nothing
-abbrev pub of_live : (View → ℕ) → Standing → ℕ
-of_live count (Live view) = count view
-of_live count Spent = 0
-
--- a count over all live seats
-abbrev pub total_of_live : (View → ℕ) → List Standing → ℕ
-total_of_live count [] = 0
-total_of_live count (standing ∷ standings) = of_live count standing + total_of_live count standings
 
 -- how often a number stands among draws
 abbrev pub times_drawn : ℕ → List Draw → ℕ
@@ -30,11 +20,6 @@ once_below number bound = if nat_lt number bound then 1 else 0
 abbrev pub has_number : ℕ → View → ℕ
 has_number drawer view = if view.drawer == drawer then 1 else 0
 
--- what holds of each live seat
-abbrev pub OfLive : (View → Type 0) → Standing → Type 0
-OfLive Holds (Live view) = Holds view
-OfLive Holds Spent = Unit {0}
-
 -- what each live seat knows: the count of targets; it drew at most once when there was nothing left, and once more for each seat joined into it; and only the
 -- first seat has split, joins, or may split
 pub record IsSeat (size : Size) (next : ℕ) (view : View) : Type 0 where
@@ -45,7 +30,7 @@ pub record IsSeat (size : Size) (next : ℕ) (view : View) : Type 0 where
   pub drew : All (λ (draw : Draw). draw.drawer < next) view.held
 
 -- the number of the next seat that is split
-abbrev pub next_drawer : List Standing → ℕ
+abbrev pub next_drawer : List (Standing View) → ℕ
 next_drawer standings = total_of_live (λ view. view.out + view.joined) standings + 1
 
 -- `once`: each number below that of the board and the count of targets stands in one live seat, once, and no other number stands in any. `apart`: no two live
@@ -53,7 +38,7 @@ next_drawer standings = total_of_live (λ view. view.out + view.joined) standing
 -- when there was nothing left, the number of the board is above the count of targets. `others`: one live seat is the first, and as many others are live as it
 -- has out. `seats`: with those joined and those that may still be split they are all seats. `each`: what each live seat knows. A seat that was joined into
 -- another holds nothing.
-pub record BoardRule (size : Size) (number : ℕ) (standings : List Standing) : Type 0 where
+pub record BoardRule (size : Size) (number : ℕ) (standings : List (Standing View)) : Type 0 where
   pub once : (held : ℕ) → total_of_live (λ view. times_drawn held view.held) standings ≡ once_below held (min number size.targets)
   pub apart : (drawer : ℕ) → total_of_live (has_number drawer) standings ≤ 1
   pub counted : number ≡ total_of_live (λ view. length view.held + view.nones) standings
@@ -66,4 +51,4 @@ pub record BoardRule (size : Size) (number : ℕ) (standings : List Standing) : 
 -- every history of a board keeps the rule
 abbrev pub HistoriesKeepTheRule : Type 0
 HistoriesKeepTheRule =
-    (size : Size) (number : ℕ) (standings : List Standing) → 0 < size.seats → BoardHistory size number standings → BoardRule size number standings
+    (size : Size) (number : ℕ) (standings : List (Standing View)) → 0 < size.seats → BoardHistory size number standings → BoardRule size number standings

@@ -5,10 +5,10 @@ ghost use Rattle.work_board.specs.Boards.{IsSeatOfBoard, Draws, EachOnce};
 ghost use Rattle.work_board.specs.Limits.{most_seats};
 ghost use Rattle.work_board.specs.Views.{first_view, split_from, split_off, joined_with};
 
-use crate::rule::{Drawing, Histories, Joining, Splitting};
+use crate::rule::{Drawing, Histories};
 use crate::seat::Seat;
-use crate::view::{Size, Standing};
-use atomic_table::Table;
+use crate::view::{Size, View};
+use shared_seats::SharedWords;
 use std::alloc::{AllocError, Global};
 use std::marker::Model;
 use std::snapshot::Snapshot;
@@ -18,7 +18,7 @@ use std::snapshot::Snapshot;
 /// one and is joined into it at the end; `close` gives what was drawn.
 #[derive(Drop)]
 pub struct Board {
-    table: Table<(), Standing, Size, Histories, Global>,
+    words: SharedWords<View, Size, Histories>,
     targets: u32,
 }
 
@@ -32,13 +32,12 @@ impl Model for Board {
     ghost coded = { board_code };
 
     ghost view = { λ board. record {
-      id = board.table.shared.table_id;
-      size = board.table.shared.key;
+      id = board.words.id;
+      size = board.words.key;
     } };
 
-    ghost invariant = { λ board. (board.table.shared.table_id.words ≡ 1)
-        × (board.table.shared.table_id.slots ≡ 0)
-        × (board.targets ≡ board.table.shared.key.targets) };
+    ghost invariant = { λ board. (board.words.id.words ≡ 1)
+        × (board.targets ≡ board.words.key.targets) };
 }
 
 /// What the seats of a board drew: each number below the count of targets once, with the number of
@@ -64,18 +63,17 @@ impl Board {
         requires { (1 ≤ seats) × (seats ≤ most_seats) }
         ensures { IfOk result (λ made. (made.0.size ≡ record { targets = targets; seats = seats })
             × (made.1 ≡ record {
-              board = made.0.id;
+              table = made.0.id;
               view = first_view (record { targets = targets; seats = seats });
             })) }
     {
-        let (table, place) = Table::of_words(alloc, &[0], &Size { targets, seats })?;
+        let (words, shared) = SharedWords::new(alloc, &[0], &Size { targets, seats }, seats - 1)?;
         let seat = Seat {
-            place,
-            to_split: seats - 1,
+            shared,
             out: 0,
             told: false,
         };
-        Ok((Board { table, targets }, seat))
+        Ok((Board { words, targets }, seat))
     }
 
     /// Splits a seat from the first one, from which at least one more may be split. The new seat
@@ -84,17 +82,15 @@ impl Board {
         requires seat { IsSeatOfBoard self.now seat.old }
         requires may { 0 < seat.old.view.to_split }
         ensures from { seat.new ≡ record {
-          board = seat.old.board;
+          table = seat.old.table;
           view = split_from seat.old.view;
         } }
-        ensures off { result ≡ record { board = seat.old.board; view = split_off seat.old.view } }
+        ensures off { result ≡ record { table = seat.old.table; view = split_off seat.old.view } }
     {
-        let place = self.table.shared.split_seat::<Splitting>(&mut seat.place);
-        seat.to_split -= 1;
+        let shared = self.words.split(&mut seat.shared);
         seat.out += 1;
         Seat {
-            place,
-            to_split: 0,
+            shared,
             out: 0,
             told: false,
         }
@@ -108,10 +104,7 @@ impl Board {
         requires untold { seat.old.view.nones ≡ 0 }
         ensures { Draws seat.old seat.new result }
     {
-        let number = self
-            .table
-            .shared
-            .fetch_add::<Drawing>(&mut seat.place, 0, 1);
+        let number = self.words.fetch_add::<Drawing>(&mut seat.shared, 0, 1);
         if number < u64::from(self.targets) {
             return Some(number as u32);
         }
@@ -125,14 +118,12 @@ impl Board {
         requires seats { IsSeatOfBoard self.now into.old × IsSeatOfBoard self.now from }
         requires out { 0 < into.old.view.out }
         ensures { into.new ≡ record {
-          board = into.old.board;
+          table = into.old.table;
           view = joined_with into.old.view from.view;
         } }
     {
-        let Seat { place, told, .. } = from;
-        self.table
-            .shared
-            .join_seat::<Joining>(&mut into.place, place);
+        let Seat { shared, told, .. } = from;
+        self.words.join(&mut into.shared, shared);
         into.out -= 1;
         into.told |= told;
     }
@@ -148,9 +139,9 @@ impl Board {
         ensures once { EachOnce self.size.targets result }
     {
         let place = Snapshot::of(&seat);
-        let Board { table, .. } = self;
-        let Seat { place: at, .. } = seat;
-        table.close_with(at).free();
+        let Board { words, .. } = self;
+        let Seat { shared, .. } = seat;
+        words.close(shared).free();
         Drawn { place }
     }
 }

@@ -10,4 +10,4 @@ mod view;
 
 pub use board::{Board, Drawn};
 pub use seat::Seat;
-pub use view::{Draw, Size, Standing, View};
+pub use view::{Draw, Size, View};

@@ -1,49 +1,47 @@
-//! The rule under which the table of a board stands, and what its steps make of the seats.
+//! The rule under which the word of a board stands, what its seats know, and what a draw shows.
 
-use crate::view::{Size, Standing};
-use atomic_table::{Join, Play, Split, TableRule};
+use crate::view::{Size, View};
+use shared_seats::{Finding, Known, SeatRule};
 
-/// What the table contains is reached by a history of the board.
+/// What the word contains is reached by a history of the board.
 pub(crate) struct Histories;
 
-impl TableRule<(), Standing, Size> for Histories {
+impl SeatRule<View, Size> for Histories {
     ghost use Rattle.work_board.specs.Steps.{IsReachedBy};
     ghost use Rattle.work_board.specs.Views.{first_view};
-    ghost use Rattle.work_board.specs.declared.view.Standing.TheVariants.{Live};
 
     ghost holds = { IsReachedBy };
 
-    ghost first = { λ size. Live (first_view size) };
+    ghost first = { first_view };
+}
+
+impl Known for View {
+    ghost use Rattle.std.specs.Prelude.{refl};
+    ghost use Rattle.work_board.specs.Seats as seats;
+    ghost use Rattle.work_board.specs.Views as views;
+
+    ghost nothing = { seats.nothing };
+
+    ghost to_split = { λ view. view.to_split };
+
+    ghost split_from = { views.split_from };
+
+    ghost split_off = { views.split_off };
+
+    ghost joined_with = { views.joined_with };
+
+    ghost splits_one_less = { λ _. refl };
+
+    ghost splits_none = { λ _. refl };
+
+    ghost splits_as_many = { λ _ _. refl };
 }
 
 /// A draw: one `fetch_add`.
 pub(crate) struct Drawing;
 
-impl Play<(), Standing> for Drawing {
-    ghost use Rattle.work_board.specs.Steps.{drew};
+impl Finding<View> for Drawing {
+    ghost use Rattle.work_board.specs.Steps.{IsDrawn};
 
-    ghost then = { drew };
-}
-
-/// A seat is split from another.
-pub(crate) struct Splitting;
-
-impl Split<Standing> for Splitting {
-    ghost use Rattle.work_board.specs.Steps.{left_of, right_of};
-
-    ghost left = { left_of };
-
-    ghost right = { right_of };
-}
-
-/// A seat is joined into another.
-pub(crate) struct Joining;
-
-impl Join<Standing> for Joining {
-    ghost use Rattle.work_board.specs.Steps.{both_of};
-    ghost use Rattle.work_board.specs.declared.view.Standing.TheVariants.{Spent};
-
-    ghost both = { both_of };
-
-    ghost spent = { Spent };
+    ghost shows = { λ _ _ _. IsDrawn };
 }

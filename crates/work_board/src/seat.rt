@@ -2,29 +2,28 @@
 
 ghost use Rattle.std.specs.Prelude.{◌≡◌, ◌==◌, not};
 
-use crate::view::Standing;
+use crate::view::View;
 use std::marker::Model;
 
 /// A seat at a board, with which one worker draws.
 #[derive(Drop)]
 pub struct Seat {
-    pub(crate) place: atomic_table::Seat<(), Standing>,
-    pub(crate) to_split: u32,
+    pub(crate) shared: shared_seats::Seat<View>,
     pub(crate) out: u32,
     pub(crate) told: bool,
 }
 
 impl Model for Seat {
     ghost use Rattle.work_board.specs.Boards.{BoardSeatSeen};
-    ghost use Rattle.work_board.specs.Seats.{seat_code, seen_at, IsSeatedAtBoard};
+    ghost use Rattle.work_board.specs.Seats.{seat_code, IsSeatedAtBoard};
 
     ghost Value = { BoardSeatSeen };
 
     ghost coded = { seat_code };
 
-    ghost view = { λ seat. seen_at seat.place };
+    ghost view = { λ seat. seat.shared };
 
-    ghost invariant = { λ seat. IsSeatedAtBoard seat.place seat.to_split seat.out seat.told };
+    ghost invariant = { λ seat. IsSeatedAtBoard seat.shared.view seat.out seat.told };
 }
 
 impl Seat {
@@ -32,7 +31,7 @@ impl Seat {
     pub fn to_split(&self) -> u32
         ensures { result ≡ self.now.view.to_split }
     {
-        self.to_split
+        self.shared.to_split()
     }
 
     /// How many seats were split from it and are not joined yet.

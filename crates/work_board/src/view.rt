@@ -1,5 +1,5 @@
-//! What is known of a board and of its seats. Values of `View` and `Standing` stand in contracts
-//! alone: none is made.
+//! What is known of a board and of its seats. Values of `View` stand in contracts alone: none is
+//! made.
 
 /// How many targets a board has, and how many seats there can be at it.
 #[derive(Clone, Copy, Debug)]
@@ -32,10 +32,4 @@ pub struct View {
     pub joined: u32,
     /// How many seats may still be split from it.
     pub to_split: u32,
-}
-
-/// A seat that may draw, with what it knows, or one that was joined into another.
-pub enum Standing {
-    Live(View),
-    Spent,
 }

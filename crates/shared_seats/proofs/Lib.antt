@@ -1,0 +1,3 @@
+pub mod StandingLemmas
+pub mod NotedLemmas
+pub mod StepLemmas

@@ -1,0 +1,4 @@
+pub mod Standings
+pub mod NotedViews
+pub mod Seats
+pub mod Steps
