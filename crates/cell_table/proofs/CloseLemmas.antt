@@ -1,9 +1,11 @@
 -- The table that is left at the end.
-use Rattle.std.proofs.Common.{◌≡◌, ℕ, ℤ, ◌⊎◌, List, length, get_or, Some, Result, Ok, Err, ap, sym, subst, ◌∙◌, inl, inr}
+use Rattle.std.proofs.Common.{◌≡◌, ℕ, ℤ, ◌⊎◌, List, get_or, Some, Result, Ok, Err, ap, sym, subst, ◌∙◌, inl, inr}
 use Rattle.std.specs.Prelude.{IfOk}
 use mathlib.Core.Option.{some}
 use lib.ListN.{get_elem?}
-use Rattle.atomic_table.specs.Table.{State}
+use Rattle.shared_seats.specs.declared.standing.Standing.{Standing}
+use Rattle.shared_seats.specs.declared.standing.Standing.TheVariants.{Live}
+use Rattle.shared_seats.proofs.NotedLemmas.{known_at}
 use Rattle.net_model.specs.declared.part.Edge.{Edge}
 use Rattle.closure_model.specs.Closure.{HoldsDerivable}
 use Rattle.closure_model.specs.Derivable.{IsDerivable}
@@ -11,39 +13,36 @@ use Rattle.closure_model.specs.Keys.{Key, IsKey, Shape, shape_of, key_of, edge_o
 use Rattle.closure_model.specs.Tables.{Graph, HasEdge, HasAtMost, IsAtMost, IsFor}
 use Rattle.closure_model.proofs.TableLemmas.{at_most_gives, at_most_from}
 use Rattle.closure_model.proofs.Weights.{le_then}
-use Rattle.cell_table.specs.CellRule.{IsShown, IsKnownOfCells, OfLive}
+use Rattle.cell_table.specs.CellRule.{IsShown}
 use Rattle.cell_table.specs.TableWords.{IsLeftOf}
 use Rattle.cell_table.specs.Places.{held, word_place_of, word_count}
 use Rattle.cell_table.specs.FinalTables.{CanTake, TakesCellWords, HoldsAt}
+use Rattle.cell_table.specs.Views.{View}
 use Rattle.cell_table.specs.declared.view.About.{About}
-use Rattle.cell_table.specs.declared.view.Standing.{Standing}
-use Rattle.cell_table.specs.declared.view.Standing.TheVariants.{Live}
-use Rattle.cell_table.specs.declared.view.View.{View}
 use Rattle.network_closure.proofs.PartialClosureLemmas.{derivable_weight}
 use Rattle.cell_table.proofs.EndLemmas.{derivable_key}
-use Rattle.cell_table.proofs.RuleLemmas.{all_at}
 
-module _ (about : About) (first : Graph) (words : List ℕ) (s : State (Unit {0}) Standing) (shown : IsShown about s) (last : s.words ≡ words) (fits : IsFor about.net.value first) where
+module _ (about : About) (first : Graph) (words : List ℕ) (seats : List (Standing View)) (shown : IsShown about words seats) (fits : IsFor about.net.value first) where
   -- a word that holds a weight is that of a derivable edge
   word_derivable : (key : Key) → IsKey first.shape key → (weight : ℤ) → HoldsAt first words key weight → IsDerivable about.net.value (edge_of key weight)
   word_derivable key sound weight has =
-      let here = shown.words key (subst (λ (t : Shape). IsKey t key) fits sound) in
-      let same : held (get_or s.words (word_place_of (shape_of about.net.value) key) 0) ≡ Some weight = (λ i. held (get_or (last i) (word_place_of (sym fits i) key) 0)) ∙ has in
+      let here = shown.shows key (subst (λ (t : Shape). IsKey t key) fits sound) in
+      let same : held (get_or words (word_place_of (shape_of about.net.value) key) 0) ≡ Some weight = (λ i. held (get_or words (word_place_of (sym fits i) key) 0)) ∙ has in
       shown.was.derivable (edge_of key weight) (sym here ∙ same)
 
   pub left_can : CanTake first words
   left_can = record {
-    sized = ap (λ (ws : List ℕ). length ws) (sym last) ∙ (shown.sized ∙ ap word_count (sym fits));
+    sized = shown.sized ∙ ap word_count (sym fits);
     each = (λ key sound other its same weight has. derivable_weight about.net.value shown.plan (edge_of key weight) (word_derivable key sound weight has));
   }
 
-  module _ (derivable : HoldsDerivable about.net.value first) (first_is : first ≡ about.first.value) (id : ℕ) (view : View) (at : get_elem? s.views id ≡ some (Live view)) (table : Graph) (taken : TakesCellWords first words table) where
+  module _ (derivable : HoldsDerivable about.net.value first) (first_is : first ≡ about.first.value) (id : ℕ) (view : View) (at : get_elem? seats id ≡ some (Live view)) (table : Graph) (taken : TakesCellWords first words table) where
     note_left : (note : Edge) → HasAtMost shown.past.table note → HasAtMost table note
     note_left note there =
         let (weight, has, less) = at_most_gives shown.past.table note there in
         let edge : Edge = edge_of (key_of note) weight in
         let sound = derivable_key about.net.value shown.plan edge (shown.was.derivable edge has) in
-        let holds : HoldsAt first words (key_of note) weight = (λ i. held (get_or (sym last i) (word_place_of (fits i) (key_of note)) 0)) ∙ (shown.words (key_of note) sound ∙ has) in
+        let holds : HoldsAt first words (key_of note) weight = (λ i. held (get_or words (word_place_of (fits i) (key_of note)) 0)) ∙ (shown.shows (key_of note) sound ∙ has) in
         let (own, own_has, own_less) = at_most_gives table edge (taken.taken (key_of note) (subst (λ (t : Shape). IsKey t (key_of note)) (sym fits) sound) weight holds) in
         at_most_from table note own own_has (le_then own weight note.weight own_less less)
 
@@ -53,7 +52,7 @@ module _ (about : About) (first : Graph) (words : List ℕ) (s : State (Unit {0}
 
     pub left_is : IsLeftOf about view table
     left_is =
-        let known = all_at (OfLive (IsKnownOfCells about shown.past.table)) s.views id (Live view) at shown.seats in record {
+        let known = known_at (HasAtMost shown.past.table) about seats shown.known id view at in record {
           fits = taken.shape_is ∙ fits;
           derivable = (λ edge has. left_derivable edge (taken.given edge has));
           lower = subst (IsAtMost table) first_is taken.lower;

@@ -1,5 +1,5 @@
 -- What the calls of the cells require and ensure, by what their steps show.
-use Rattle.std.proofs.Common.{◌≡◌, ◌≢◌, ℕ, ◌+◌, ◌*◌, ◌<◌, ◌≤◌, ℤ, pos, ◌-ℤ◌, ◌+ℤ◌, ◌≤ℤ◌, ◌<ℤ◌, ◌⊎◌, true, [], length, get_or, min, Option, Some, None, refl, ap, sym, subst, ◌∙◌, inl, inr, arith}
+use Rattle.std.proofs.Common.{◌≡◌, ◌≢◌, ℕ, ◌+◌, ◌*◌, ◌<◌, ◌≤◌, ℤ, pos, ◌-ℤ◌, ◌+ℤ◌, ◌≤ℤ◌, ◌<ℤ◌, ◌⊎◌, true, length, get_or, Option, Some, None, refl, ap, sym, subst, ◌∙◌, inl, inr, arith}
 use Rattle.std.specs.Prelude.{slice_get, nat_lt, int_lt, IfSome, IsSomeAnd}
 use Rattle.std.specs.List.{All}
 use Rattle.std.specs.Option.{option_map, option_map_or}
@@ -7,9 +7,6 @@ use Rattle.std.proofs.lemmas.Bool.{cases_eq, cases_lt, lt-ltb, le-ltb}
 use Rattle.std.proofs.lemmas.Int.{ints}
 use Rattle.std.proofs.lemmas.Option.{slice_get-map, slice_get-get_or, slice_get_within}
 use Rattle.std.proofs.lemmas.List.{length-map}
-use mathlib.Core.Option.{none}
-use Rattle.atomic_table.specs.Table.{Me, step, Allows}
-use Rattle.atomic_table.specs.declared.shared.Seat.{Seat as Place}
 use Rattle.net_model.specs.Limits.{IsWeight}
 use Rattle.net_model.specs.Network.{Plan, IsPlan}
 use Rattle.net_model.specs.declared.ids.LinkId.{LinkId}
@@ -22,18 +19,12 @@ use Rattle.closure_model.specs.Tables.{weight_of, no_edges}
 use Rattle.closure_model.proofs.DerivableEdges.{link_at}
 use Rattle.closure_model.proofs.Weights.{lt_true, lt_false}
 use Rattle.network_closure.proofs.PartialClosureLemmas as partial_closure
-use Rattle.cell_table.specs.CellRule.{IsShown}
 use Rattle.cell_table.specs.Places.{absent_cell, weight_offset, held, word_place_of, row_number}
-use Rattle.cell_table.specs.Seats.{view_of, seen_at}
 use Rattle.cell_table.specs.Shared.{CellSeatSeen, Loads, Lowers}
 use Rattle.cell_table.specs.Steps.{IsFoundWeight, StepFound, loaded, dropped}
-use Rattle.cell_table.specs.Views.{looked, relaxed}
+use Rattle.cell_table.specs.Views.{View, looked, relaxed}
 use Rattle.cell_table.specs.declared.view.About.{About}
-use Rattle.cell_table.specs.declared.view.Standing.{Standing}
-use Rattle.cell_table.specs.declared.view.Standing.TheVariants.{Live}
-use Rattle.cell_table.specs.declared.view.View.{View}
 use Rattle.cell_table.proofs.PlaceLemmas.{one_key, held_is, held_present}
-use Rattle.cell_table.proofs.TableLemmas.{loads, drops}
 
 -- ---- derivable edges
 pub derivable_key : (net : Plan) → IsPlan net → (edge : Edge) → IsDerivable net edge → IsKey (shape_of net) (key_of edge)
@@ -78,66 +69,40 @@ module _ (view : View) (key : Key) (word : ℕ) (found : IsFoundWeight view key 
       let note : Edge = get_or view.notes k d in
       subst (λ (o : Option ℤ). IsSomeAnd o (λ weight. weight ≤ℤ note.weight)) (ap (weight_of found.past.table) same ∙ sym (given ∙ found.is)) (found.notes k d lt)
 
-module _ (seen : About) (seat : CellSeatSeen) (about_is : seat.view.about ≡ seen) (old : Place (Unit {0}) Standing) (view_is : seen_at old ≡ seat) (live : old.me ≡ (Live (view_of old.me.0), [])) where
-  abbrev Mine : Type 0
-  Mine = Me (Unit {0}) Standing
-
+module _ (about : About) (seat : CellSeatSeen) (about_is : seat.view.about ≡ about) where
   abbrev place : Key → ℕ
-  place key = word_place_of (shape_of seen.net.value) key
-
-  live_now : old.me ≡ (Live seat.view, [])
-  live_now = live ∙ ap (λ (s : CellSeatSeen). (Live s.view, [])) view_is
-
-  pub load_asks : (about : About) → about ≡ seen → (slots : ℕ) (key : Key) → IsKey (shape_of seen.net.value) key → (word : ℕ) → word ≡ place key
-      → Allows (IsShown about) slots old.id old.me word (λ n. n) (loaded (step slots word 0 0 none) old.me)
-  load_asks about same slots key is word at =
-      subst (λ (a : About). Allows (IsShown a) slots old.id old.me word (λ n. n) (loaded (step slots word 0 0 none) old.me)) (sym same)
-      (loads seen slots old.id old.me seat.view live_now about_is key is word at)
-
-  pub relax_asks : (about : About) → about ≡ seen → (slots : ℕ) (edge : Edge) → IsDerivable seen.net.value edge → IsKey (shape_of seen.net.value) (key_of edge)
-      → (code : ℕ) → code < absent_cell → edge.weight ≡ pos code -ℤ pos weight_offset → (word : ℕ) → word ≡ place (key_of edge)
-      → Allows (IsShown about) slots old.id old.me word (λ n. min n code) (dropped (step slots word code 0 none) old.me)
-  relax_asks about same slots edge derivable is code present coded word at =
-      subst (λ (a : About). Allows (IsShown a) slots old.id old.me word (λ n. min n code) (dropped (step slots word code 0 none) old.me)) (sym same)
-      (drops seen slots old.id old.me seat.view live_now about_is edge derivable is code present coded word at)
+  place key = word_place_of (shape_of about.net.value) key
 
   -- what was found is of the key whose word it is
-  module _ (after_of : View → Key → View) (key : Key) (is : IsKey (shape_of seen.net.value) key) (at_word : ℕ) (at : at_word ≡ place key) (word : ℕ) (after : Mine) (reported : StepFound after_of at_word old.me word after) where
-    same_view : reported.view ≡ seat.view
-    same_view = ap (λ (m : Standing). view_of m) (sym reported.was ∙ ap (λ (m : Mine). m.0) live_now)
-
-    about_then : reported.view.about ≡ seen
-    about_then = ap (λ (v : View). v.about) same_view ∙ about_is
-
+  module _ (after_of : View → Key → View) (key : Key) (is : IsKey (shape_of about.net.value) key) (at_word : ℕ) (at : at_word ≡ place key) (word : ℕ) (after : View)
+      (reported : StepFound after_of at_word seat.view word after) where
     same_key : reported.key ≡ key
     same_key =
-        one_key (shape_of seen.net.value) reported.key key (subst (λ (a : About). IsKey (shape_of a.net.value) reported.key) about_then reported.there) is
-        (sym (ap (λ (a : About). word_place_of (shape_of a.net.value) reported.key) about_then) ∙ (reported.at ∙ at))
+        one_key (shape_of about.net.value) reported.key key (subst (λ (a : About). IsKey (shape_of a.net.value) reported.key) about_is reported.there) is
+        (sym (ap (λ (a : About). word_place_of (shape_of a.net.value) reported.key) about_is) ∙ (reported.at ∙ at))
 
     pub step_found : IsFoundWeight seat.view key word
-    step_found = subst (λ (p : View × Key). IsFoundWeight p.0 p.1 word) (λ i. (same_view i, same_key i)) reported.found
+    step_found = subst (λ (k : Key). IsFoundWeight seat.view k word) same_key reported.found
 
-    pub step_after : after ≡ (Live (after_of seat.view key), [])
-    step_after = reported.is ∙ (λ i. (Live (after_of (same_view i) (same_key i)), []))
+    pub step_after : after ≡ after_of seat.view key
+    step_after = reported.is ∙ ap (after_of seat.view) same_key
 
-  pub small_load : IsPlan seen.net.value → (slots : ℕ) (key : Key) → IsKey (shape_of seen.net.value) key → (at_word : ℕ) → at_word ≡ place key → (word : ℕ) (after : Mine)
-      → loaded (step slots at_word 0 0 none) old.me word after → word ≤ absent_cell
-  small_load plan slots key is at_word at word after reported =
+  pub small_load : IsPlan about.net.value → (key : Key) → IsKey (shape_of about.net.value) key → (at_word : ℕ) → at_word ≡ place key → (word : ℕ) (after : View)
+      → loaded at_word 0 0 seat.view word after → word ≤ absent_cell
+  small_load plan key is at_word at word after reported =
       found_small seat.view key word (subst (λ (a : About). IsPlan a.net.value) (sym about_is) plan) (step_found (λ view key. looked view key word) key is at_word at word after reported)
 
-  seen_after : (new : Place (Unit {0}) Standing) (view : View) → new.table_id ≡ old.table_id → new.me ≡ (Live view, []) → seen_at new ≡ record { cells = seat.cells; view = view }
-  seen_after new view table me = λ i. record { cells = (table ∙ ap (λ (s : CellSeatSeen). s.cells) view_is) i; view = ap (λ (m : Mine). view_of m.0) me i }
-
-  pub load_ends : (slots : ℕ) (key : Key) → IsKey (shape_of seen.net.value) key → (at_word : ℕ) → at_word ≡ place key → (word : ℕ) (new : Place (Unit {0}) Standing) → new.table_id ≡ old.table_id
-      → loaded (step slots at_word 0 0 none) old.me word new.me → (result : Option ℤ) → result ≡ held word → Loads seat (seen_at new) key result
-  load_ends slots key is at_word at word new table reported result given =
-      let found = step_found (λ view key. looked view key word) key is at_word at word new.me reported in record {
+  pub load_ends : (key : Key) → IsKey (shape_of about.net.value) key → (at_word : ℕ) → at_word ≡ place key → (word : ℕ) (new : CellSeatSeen) → new.table ≡ seat.table
+      → loaded at_word 0 0 seat.view word new.view → (result : Option ℤ) → result ≡ held word → Loads seat new key result
+  load_ends key is at_word at word new table reported result given =
+      let found = step_found (λ view key. looked view key word) key is at_word at word new.view reported in
+      let after = step_after (λ view key. looked view key word) key is at_word at word new.view reported in record {
         word = word;
         found = found;
         given = given;
         derivable = found_derivable seat.view key word found result given;
         noted = found_noted seat.view key word found result given;
-        after_is = seen_after new (looked seat.view key word) table (step_after (λ view key. looked view key word) key is at_word at word new.me reported);
+        after_is = λ i. record { table = table i; view = after i };
       }
 
   above : (code word : ℕ) (weight : ℤ) → code < absent_cell → weight ≡ pos code -ℤ pos weight_offset → (given : Option ℤ) → held word ≡ given → nat_lt code word ≡ option_map_or (λ w. int_lt weight w) given true
@@ -164,16 +129,15 @@ module _ (seen : About) (seat : CellSeatSeen) (about_is : seat.view.about ≡ se
       by (inl less) = lt-ltb code word less ∙ sym (lt_true weight w (lighter less))
       by (inr more) = le-ltb code word more ∙ sym (lt_false weight w (heavier more))
 
-  pub relax_ends : (slots : ℕ) (edge : Edge) → IsKey (shape_of seen.net.value) (key_of edge) → (code : ℕ) → code < absent_cell → edge.weight ≡ pos code -ℤ pos weight_offset → (at_word : ℕ) → at_word ≡ place (key_of edge)
-      → (word : ℕ) (new : Place (Unit {0}) Standing) → new.table_id ≡ old.table_id → dropped (step slots at_word code 0 none) old.me word new.me → Lowers seat (seen_at new) edge (nat_lt code word)
-  relax_ends slots edge is code present coded at_word at word new table reported =
-      let then : View → Key → View = λ view key. relaxed view key word (pos code -ℤ pos weight_offset) in record {
+  pub relax_ends : (edge : Edge) → IsKey (shape_of about.net.value) (key_of edge) → (code : ℕ) → code < absent_cell → edge.weight ≡ pos code -ℤ pos weight_offset → (at_word : ℕ) → at_word ≡ place (key_of edge)
+      → (word : ℕ) (new : CellSeatSeen) → new.table ≡ seat.table → dropped at_word code 0 seat.view word new.view → Lowers seat new edge (nat_lt code word)
+  relax_ends edge is code present coded at_word at word new table reported =
+      let then : View → Key → View = λ view key. relaxed view key word (pos code -ℤ pos weight_offset) in
+      let after = step_after then (key_of edge) is at_word at word new.view reported in record {
         word = word;
-        found = step_found then (key_of edge) is at_word at word new.me reported;
+        found = step_found then (key_of edge) is at_word at word new.view reported;
         given = above code word edge.weight present coded (held word) refl;
-        after_is =
-            seen_after new (relaxed seat.view (key_of edge) word (pos code -ℤ pos weight_offset)) table (step_after then (key_of edge) is at_word at word new.me reported)
-            ∙ (λ i. record { cells = seat.cells; view = relaxed seat.view (key_of edge) word (sym coded i) });
+        after_is = (λ i. record { table = table i; view = after i }) ∙ (λ i. record { table = seat.table; view = relaxed seat.view (key_of edge) word (sym coded i) });
       }
 
 -- a code of a weight

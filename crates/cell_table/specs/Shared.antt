@@ -3,28 +3,27 @@ use Rattle.std.specs.Prelude.{◌≡◌, ℕ, ℤ, ◌≤ℤ◌, Bool, Option, I
 use Rattle.std.specs.List.{All}
 use Rattle.std.specs.Option.{option_map_or}
 use Rattle.atomic_table.specs.Seated.{TableId}
+use Rattle.shared_seats.specs.Seats.{SeatSeen}
 use Rattle.net_model.specs.declared.part.Edge.{Edge}
 use Rattle.closure_model.specs.Derivable.{IsDerivableFor}
 use Rattle.closure_model.specs.Keys.{Key, key_of}
 use Rattle.cell_table.specs.Places.{held}
 use Rattle.cell_table.specs.Steps.{IsFoundWeight}
-use Rattle.cell_table.specs.Views.{looked, relaxed}
+use Rattle.cell_table.specs.Views.{View, looked, relaxed}
 use Rattle.cell_table.specs.declared.view.About.{About}
-use Rattle.cell_table.specs.declared.view.View.{View}
 
 -- which cells they are, and what they are about
 pub record CellsSeen : Type 0 where
   pub id : TableId
   pub about : About
 
--- the cells to which a seat belongs, and what the seat knows
-pub record CellSeatSeen : Type 0 where
-  pub cells : TableId
-  pub view : View
+-- the words of the cells to which a seat belongs, and what the seat knows
+abbrev pub CellSeatSeen : Type 0
+CellSeatSeen = SeatSeen View
 
 -- a seat comes from cells
 pub record IsSeatOfCells (cells : CellsSeen) (seat : CellSeatSeen) : Type 0 where
-  pub cells_are : seat.cells ≡ cells.id
+  pub cells_are : seat.table ≡ cells.id
   pub about_is : seat.view.about ≡ cells.about
 
 -- A seat loaded the word of a key: nothing is given exactly if the word of that step holds no weight. What is given is derivable; if the
@@ -35,7 +34,7 @@ pub record Loads (before after : CellSeatSeen) (key : Key) (result : Option ℤ)
   pub given : result ≡ held word
   pub derivable : IfSome result (IsDerivableFor before.view.about.net.value key)
   pub noted : All (λ (note : Edge). key_of note ≡ key → IsSomeAnd result (λ weight. weight ≤ℤ note.weight)) before.view.notes
-  pub after_is : after ≡ record { cells = before.cells; view = looked before.view key word }
+  pub after_is : after ≡ record { table = before.table; view = looked before.view key word }
 
 -- A seat relaxed an edge: true exactly if the word of that step was above, which means that it held no weight or a greater one. A look is
 -- added, and a note of the edge.
@@ -43,4 +42,4 @@ pub record Lowers (before after : CellSeatSeen) (edge : Edge) (result : Bool) : 
   pub word : ℕ
   pub found : IsFoundWeight before.view (key_of edge) word
   pub given : result ≡ option_map_or (λ weight. int_lt edge.weight weight) (held word) true
-  pub after_is : after ≡ record { cells = before.cells; view = relaxed before.view (key_of edge) word edge.weight }
+  pub after_is : after ≡ record { table = before.table; view = relaxed before.view (key_of edge) word edge.weight }

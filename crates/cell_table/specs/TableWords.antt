@@ -8,9 +8,8 @@ use Rattle.closure_model.specs.Tables.{Graph, weight_of, HasAtMost, IsAtMost, Is
 use Rattle.cell_table.specs.Limits.{key_count, most_keys}
 use Rattle.cell_table.specs.Places.{held, word_place_of, word_count}
 use Rattle.cell_table.specs.Shared.{CellsSeen, CellSeatSeen}
-use Rattle.cell_table.specs.Views.{first_view}
+use Rattle.cell_table.specs.Views.{View, first_view}
 use Rattle.cell_table.specs.declared.view.About.{About}
-use Rattle.cell_table.specs.declared.view.View.{View}
 
 -- words are those of a table: word 0 is 0, and each key's word holds what the table has for the key
 pub record AreWordsOfTable (table : Graph) (words : List ℕ) : Type 0 where
@@ -24,7 +23,7 @@ pub record AreMadeOf (net : Plan) (table : Graph) (seats : ℕ) (cells : CellsSe
   pub net_is : cells.about.net.value ≡ net
   pub first_is : cells.about.first.value ≡ table
   pub seats_are : cells.about.seats ≡ seats
-  pub seat_is : seat ≡ record { cells = cells.id; view = first_view cells.about }
+  pub seat_is : seat ≡ record { table = cells.id; view = first_view cells.about }
 
 -- the table that is left of cells: its edges are derivable, and each key of the first table, and of each note, is at most at its weight
 pub record IsLeftOf (about : About) (view : View) (table : Graph) : Type 0 where

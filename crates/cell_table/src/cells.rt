@@ -7,23 +7,23 @@ ghost use Rattle.closure_model.specs.Keys.{ordinary_key, labelled_key, key_of, s
 ghost use Rattle.closure_model.specs.Closure.{HoldsDerivable};
 ghost use Rattle.closure_model.specs.Tables.{IsFor, base_table};
 ghost use Rattle.net_model.specs.Limits.{IsWeight};
+ghost use Rattle.shared_seats.specs.NotedViews.{split_from, split_off, joined_with};
 ghost use Rattle.cell_table.specs.TableWords.{AreMadeOf, IsLeftOf};
 ghost use Rattle.cell_table.specs.Faults.{IsCellFault};
 ghost use Rattle.cell_table.specs.Limits.{most_cell_seats};
 ghost use Rattle.cell_table.specs.Places.{held, absent_cell, weight_offset, row_number};
 ghost use Rattle.cell_table.specs.Shared.{IsSeatOfCells, Loads, Lowers};
-ghost use Rattle.cell_table.specs.Views.{split_from, split_off, joined_with};
 
 use crate::fault::CellFault;
 use crate::final_table::{ends_of, taken_in};
-use crate::rule::{Joining, Loading, Relaxing, Shown, Splitting};
+use crate::rule::{Loading, Relaxing, Shown};
 use crate::seat::CellSeat;
 use crate::table_words::{ADDED, words_of};
-use crate::view::{About, Standing};
+use crate::view::{About, View};
 use crate::word::weight_of_word;
-use atomic_table::Table as Words;
 use labelled_graph::Table;
 use net_model::{Edge, LinkId, Network, PointId, Weight};
+use shared_seats::SharedWords;
 use std::alloc::{AllocError, Global};
 use std::marker::Model;
 use std::snapshot::Snapshot;
@@ -41,7 +41,7 @@ pub const MOST_KEYS: usize = 1_000_000;
 /// that is left.
 #[derive(Drop)]
 pub struct Cells {
-    words: Words<(), Standing, About, Shown, Global>,
+    words: SharedWords<View, About, Shown>,
     /// The table from which the words were made.
     first: Table,
     /// The points in which the edges of each label end.
@@ -59,12 +59,12 @@ impl Model for Cells {
     ghost coded = { cells_code };
 
     ghost view = { λ cells. record {
-      id = cells.words.shared.table_id;
-      about = cells.words.shared.key;
+      id = cells.words.id;
+      about = cells.words.key;
     } };
 
-    ghost invariant = { λ cells. IsCells cells.words.shared.table_id cells.words.shared.key
-        cells.first cells.ends.items cells.points };
+    ghost invariant = { λ cells. IsCells cells.words.id cells.words.key cells.first
+        cells.ends.items cells.points };
 }
 
 impl Cells {
@@ -118,19 +118,16 @@ impl Cells {
             first: Snapshot::of(table),
             seats,
         };
-        match Words::of_words(alloc, words.as_slice(), &about) {
+        match SharedWords::new(alloc, words.as_slice(), &about, seats - 1) {
             Err(_) => Err(CellFault::OutOfMemory),
-            Ok((words, place)) => Ok((
+            Ok((words, seat)) => Ok((
                 Cells {
                     words,
                     first,
                     ends,
                     points,
                 },
-                CellSeat {
-                    place,
-                    to_split: seats - 1,
-                },
+                seat,
             )),
         }
     }
@@ -141,28 +138,23 @@ impl Cells {
         requires seat { IsSeatOfCells self.now seat.old }
         requires may { 0 < seat.old.view.to_split }
         ensures from { seat.new ≡ record {
-          cells = seat.old.cells;
+          table = seat.old.table;
           view = split_from seat.old.view;
         } }
-        ensures off { result ≡ record { cells = seat.old.cells; view = split_off seat.old.view } }
+        ensures off { result ≡ record { table = seat.old.table; view = split_off seat.old.view } }
     {
-        let place = self.words.shared.split_seat::<Splitting>(&mut seat.place);
-        seat.to_split -= 1;
-        CellSeat { place, to_split: 0 }
+        self.words.split(seat)
     }
 
     /// Joins a seat into another, which takes over the notes of the other and keeps its own looks.
     pub fn join(&self, into: &mut CellSeat, from: CellSeat)
         requires seats { IsSeatOfCells self.now into.old × IsSeatOfCells self.now from }
         ensures { into.new ≡ record {
-          cells = into.old.cells;
+          table = into.old.table;
           view = joined_with into.old.view from.view;
         } }
     {
-        let CellSeat { place, .. } = from;
-        self.words
-            .shared
-            .join_seat::<Joining>(&mut into.place, place);
+        self.words.join(into, from);
     }
 
     /// The weight that the ordinary key between two points has at this step, and `None` exactly if
@@ -176,7 +168,7 @@ impl Cells {
         // The proof reads here that the network is sound.
         let _ = &self.words;
         let place = self.place(from, to.0 as usize);
-        let word = self.words.shared.load::<Loading>(&mut seat.place, place);
+        let word = self.words.load::<Loading>(seat, place);
         weight_of_word(word)
     }
 
@@ -190,7 +182,7 @@ impl Cells {
             link.0 ≡ Some to → Loads seat.old seat.new (labelled_key from to link) result }
     {
         let place = self.place(from, self.points + link.0 as usize);
-        let word = self.words.shared.load::<Loading>(&mut seat.place, place);
+        let word = self.words.load::<Loading>(seat, place);
         weight_of_word(word)
     }
 
@@ -207,10 +199,7 @@ impl Cells {
         let row = self.row(edge);
         let place = self.place(edge.from, row);
         let word = word_of(edge);
-        let found = self
-            .words
-            .shared
-            .fetch_min::<Relaxing>(&mut seat.place, place, word);
+        let found = self.words.fetch_min::<Relaxing>(seat, place, word);
         word < found
     }
 
@@ -227,9 +216,8 @@ impl Cells {
             ends,
             points,
         } = self;
-        let CellSeat { place, .. } = seat;
         let count = words.word_count();
-        let closed = words.close_with(place);
+        let closed = words.close(seat);
         let taken = taken_in(first, &closed, ends.as_slice(), points, count);
         closed.free();
         taken

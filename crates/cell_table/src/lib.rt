@@ -24,4 +24,4 @@ pub use fault::CellFault;
 pub use gate::{CellGate, NoCellGate};
 pub use seat::CellSeat;
 pub use settlement::{Settled, settle};
-pub use view::{About, Look, Standing, View};
+pub use view::{About, Look, View};

@@ -1,8 +1,8 @@
-//! What is known of cells and of their seats. Values of `View` and `Standing` stand in contracts
-//! alone: none is made.
+//! What is known of cells and of their seats.
 
 use labelled_graph::Table;
 use net_model::{Edge, LinkId, Network, PointId};
+use shared_seats::Noted;
 use std::snapshot::Snapshot;
 
 /// The network of the cells, the table from which they were made, and how many seats there may be.
@@ -22,20 +22,5 @@ pub struct Look {
     pub word: u64,
 }
 
-/// What a seat knows of its cells.
-pub struct View {
-    pub about: About,
-    /// The edges that it read or relaxed, and those of the seats that were joined into it. A clause
-    /// reads an array as a list, of any length.
-    pub notes: [Edge; 0],
-    /// What its own steps found.
-    pub looks: [Look; 0],
-    /// How many seats may still be split from it.
-    pub to_split: u32,
-}
-
-/// A seat that may step, with what it knows, or one that was joined into another.
-pub enum Standing {
-    Live(View),
-    Spent,
-}
+/// What a seat knows of its cells. Its notes are the edges that it read or relaxed.
+pub type View = Noted<About, Edge, Look>;

@@ -3,36 +3,31 @@ use Rattle.std.specs.Mem.Slots.{slots_items}
 use Rattle.closure_model.specs.Keys.{Shape}
 use Rattle.cell_table.proofs.CloseLemmas.{left_can, left_is, ok_then}
 use Rattle.cell_table.proofs.TakeLemmas.{ends_begin}
-use mathlib.Core.Option.{some}
 use Rattle.cell_table.specs.TableWords.{IsLeftOf}
 use Rattle.cell_table.specs.FinalTables.{TakesCellWords}
-use Rattle.cell_table.specs.Seats.{view_of}
+use Rattle.cell_table.specs.Shared.{CellsSeen}
 use Rattle.cell_table.specs.declared.view.About.{About}
-use Rattle.cell_table.specs.declared.view.View.{View}
 use Rattle.cell_table.proofs.cells.Cells.close.Goals as goal
 
 pub taken_in-taken-requires-clause-can : goal.taken_in-taken-requires-clause-can
 taken_in-taken-requires-clause-can c =
-    let final = c.close_with-closed.ensures.values.2 in
-    left_can c.self.inside.words.shared.key c.self.inside.first (slots_items c.close_with-closed.result.words) final.0 final.1.0 final.2 c.self.invariant.fits
+    let last = c.close-closed.ensures.last in left_can c.self.inside.words.key c.self.inside.first (slots_items c.close-closed.result.words) last.seats last.rule c.self.invariant.fits
 
 pub taken_in-taken-requires-clause-ends : goal.taken_in-taken-requires-clause-ends
 taken_in-taken-requires-clause-ends c = search rules
 
 pub taken_in-taken-requires-clause-begins : goal.taken_in-taken-requires-clause-begins
 taken_in-taken-requires-clause-begins c =
-    ends_begin c.self.inside.words.shared.key.net.value c.self.invariant.plan c.as_slice.result.now (c.as_slice.ensures.value ∙ c.self.invariant.ends_are
+    ends_begin c.self.inside.words.key.net.value c.self.invariant.plan c.as_slice.result.now (c.as_slice.ensures.value ∙ c.self.invariant.ends_are
     ∙ ap (λ (s : Shape). s.activations) c.self.invariant.fits) c.self.inside.points c.self.invariant.points_are
 
 pub returns : goal.returns
 returns c =
-    let final = c.close_with-closed.ensures.values.2 in
-    let about = c.self.inside.words.shared.key in
-    let place = c.seat.inside.place in
-    let words = slots_items c.close_with-closed.result.words in
+    let last = c.close-closed.ensures.last in
+    let about = c.self.inside.words.key in
+    let words = slots_items c.close-closed.result.words in
     ok_then (TakesCellWords c.self.inside.first words) (IsLeftOf c.args.self.about c.args.seat.view)
     (λ table taken.
-    subst (λ (p : About × View). IsLeftOf p.0 p.1 table) (λ i. ((c.self.view_is i).about, (c.seat.view_is i).view))
-    (left_is about c.self.inside.first words final.0 final.1.0 final.2 c.self.invariant.fits c.self.invariant.derivable c.self.invariant.first_is place.id (view_of place.me.0)
-    (final.1.1 ∙ ap some (λ i. (c.seat.invariant.live i).0)) table taken))
+    subst (λ (a : About). IsLeftOf a c.args.seat.view table) (ap (λ (s : CellsSeen). s.about) c.self.view_is)
+    (left_is about c.self.inside.first words last.seats last.rule c.self.invariant.fits c.self.invariant.derivable c.self.invariant.first_is last.seat c.args.seat.view last.at table taken))
     c.taken_in-taken.result c.taken_in-taken.ensures
