@@ -6,7 +6,8 @@ use Rattle.std.proofs.lemmas.Option.{same_Some, slice_get_within, slice_get-get_
 use Rattle.std.proofs.lemmas.List.{get_or-map, length-map}
 use mathlib.Core.Option.{some, some-injective, some-ne-none}
 use lib.ListN.{get_elem?}
-use Rattle.atomic_table.specs.Table.{State}
+use Rattle.shared_seats.specs.Steps.{IsLast}
+use Rattle.shared_seats.specs.declared.standing.Standing.{Standing}
 use Rattle.net_model.specs.Moments.{Moments, moment_of}
 use Rattle.net_model.specs.Network.{Plan, IsPlan}
 use Rattle.net_model.specs.declared.ids.LinkId.{LinkId}
@@ -20,13 +21,12 @@ use Rattle.execution_model.specs.declared.feed_answers.Finished.TheVariants as f
 use Rattle.execution_model.proofs.PlaceLemmas.{ending_point}
 use Rattle.sensor_desk.specs.Comparison.{Agrees, IsAgreed, IsClosing, AreCompared, stream_of, ExecutesWhole, Closes}
 use Rattle.sensor_desk.specs.DeskHistory.{Entries, moment_at}
-use Rattle.sensor_desk.specs.DeskRule.{IsReachedBy, IsLeft}
+use Rattle.sensor_desk.specs.DeskRule.{IsReachedBy}
+use Rattle.sensor_desk.specs.Views.{View}
 use Rattle.sensor_desk.specs.Words.{held, place_of_word}
 use Rattle.sensor_desk.specs.declared.end.Closing.{Closing}
 use Rattle.sensor_desk.specs.declared.end.Closing.TheVariants.{Agreed, Differs}
 use Rattle.sensor_desk.specs.declared.view.About.{About}
-use Rattle.sensor_desk.specs.declared.view.Standing.{Standing}
-use Rattle.sensor_desk.specs.declared.view.View.{View}
 use Rattle.sensor_desk.proofs.RuleLemmas.{held_word, word_at, past_of}
 use Rattle.sensor_desk.proofs.StreamLemmas.{shows}
 
@@ -65,10 +65,10 @@ module _ (net : Plan) (plan : IsPlan net) (entries : Entries) (execution : Execu
       inside ending = slice_get_within net.links ending.name.0 ending.link ending.declared
 
 -- ---- the words at the end
-module _ (about : About) (words : List ℕ) (s : State (Unit {0}) Standing) (reached : IsReachedBy about s) (last : s.words ≡ words) where
+module _ (about : About) (words : List ℕ) (seats : List (Standing View)) (reached : IsReachedBy about words seats) where
   word_is : (name : LinkId) → held (get_or words (place_of_word name) 0) ≡ moment_at reached.entries name
   word_is name =
-      ap (λ (ws : List ℕ). held (get_or ws (place_of_word name) 0)) (sym last ∙ reached.words)
+      ap (λ (ws : List ℕ). held (get_or ws (place_of_word name) 0)) reached.words_are
       ∙ (ap held (word_at reached.entries name) ∙ held_word (moment_at reached.entries name))
 
   pub closing_of : (net : Plan) (moments : Moments) (closing : Closing) → AreCompared net moments words closing → IsClosing net moments (moment_at reached.entries) closing
@@ -78,14 +78,14 @@ module _ (about : About) (words : List ℕ) (s : State (Unit {0}) Standing) (rea
     record { link = apart.link; at = apart.at; other = λ same. apart.other (word_is first ∙ same) },
   )
 
-pub closes : (about : About) (words : List ℕ) (view : View) → IsLeft about view words → (net : Plan) → IsPlan net → (execution : Execution) (closing : Closing) → AreCompared net execution.moments words closing
+pub closes : (about : About) (words : List ℕ) (view : View) → IsLast (IsReachedBy about) view words → (net : Plan) → IsPlan net → (execution : Execution) (closing : Closing) → AreCompared net execution.moments words closing
     → length execution.moments ≡ length net.points → FinishesAreEarliest → Closes net view execution closing
 closes about words view left net plan execution closing compared count law =
-    let answer = closing_of about words left.state left.reached left.last net execution.moments closing compared in record {
-      entries = left.reached.entries;
-      past = past_of about left.state left.reached left.seat view left.at;
+    let answer = closing_of about words left.seats left.rule net execution.moments closing compared in record {
+      entries = left.rule.entries;
+      past = past_of about words left.seats left.rule left.seat view left.at;
       answer = answer;
-      executes = λ is. executes net plan left.reached.entries execution (subst (λ (c : Closing). IsClosing net execution.moments (moment_at left.reached.entries) c) is answer) count law;
+      executes = λ is. executes net plan left.rule.entries execution (subst (λ (c : Closing). IsClosing net execution.moments (moment_at left.rule.entries) c) is answer) count law;
     }
 
 -- ---- one link after another

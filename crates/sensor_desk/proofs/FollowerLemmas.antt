@@ -97,7 +97,7 @@ module _ (net : Plan) (moments : Moments) (moment : ℕ) (before : DeskSeatSeen)
     are = record {
       points = refl;
       each = All-nil (IsFinding net moments before.view);
-      after_is = λ i. record { desk = before.desk; view = record before.view { looks = sym (append-nil before.view.looks) i } };
+      after_is = λ i. record { table = before.table; view = record before.view { looks = sym (append-nil before.view.looks) i } };
     };
     late_is = refl;
     listed_is = refl;
@@ -144,7 +144,7 @@ module _ (net : Plan) (moments : Moments) (moment : ℕ) (before : DeskSeatSeen)
       found_more = record {
         points = map-append (λ (s : Finding). s.point) findings (finding ∷ []) ∙ (ap (λ (l : List PointId). l ++ point ∷ []) are.points ∙ sym (more_open true (ap (λ (o : Option LinkId). is_some o) is)));
         each = All-push (IsFinding net moments before.view) findings finding are.each (record { link = is; found = seen_before });
-        after_is = look.after_is ∙ (λ i. record { desk = ap (λ (s : DeskSeatSeen). s.desk) are.after_is i; view = looks_are i });
+        after_is = look.after_is ∙ (λ i. record { table = ap (λ (s : DeskSeatSeen). s.table) are.after_is i; view = looks_are i });
       }
 
     pub findings_more : (room capacity_after : List PointId) (late late_then : Option (PointId × ℕ)) (listed listed_then : ℕ) → AreFindingsSoFar net moments moment count before between room late listed → (found : Option ℕ)

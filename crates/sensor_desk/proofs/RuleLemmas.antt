@@ -3,30 +3,24 @@ use Rattle.std.proofs.Common.{◌≡◌, ◌≢◌, ℕ, zero, suc, ◌+◌, ◌
 use Rattle.std.specs.List.{All}
 use Rattle.std.proofs.lemmas.Bool.{cases_eq}
 use Rattle.std.proofs.lemmas.List.{map-set}
-use Rattle.std.proofs.lemmas.List.Elements.{All-nil, All-head, All-tail, All-set, All-push, All-append}
+use Rattle.std.proofs.lemmas.List.Elements.{All-nil, All-push}
 use Rattle.std.proofs.Math.ListN as lists
-use mathlib.Core.Option.{some, some-injective, some-ne-none}
+use mathlib.Core.Option.{some}
 use lib.ListN.{get_elem?}
 use prog.Atomic.{either}
-use Rattle.atomic_table.specs.Table.{State}
 use Rattle.atomic_table.proofs.Lists.{exchanged}
+use Rattle.shared_seats.specs.NotedViews.{AreKnown}
+use Rattle.shared_seats.specs.declared.standing.Standing.{Standing}
+use Rattle.shared_seats.specs.declared.standing.Standing.TheVariants.{Live}
+use Rattle.shared_seats.proofs.NotedLemmas.{known_at}
 use Rattle.net_model.specs.declared.ids.LinkId.{LinkId}
 use Rattle.sensor_desk.specs.DeskHistory.{Entries, DeskStep, DeskHistory, steps, moment_at, moment_standing_after, noted_by, stepped}
-use Rattle.sensor_desk.specs.DeskRule.{NoteStands, IsPastOfDesk, IsKnownOfDesk, OfLive, IsReachedBy}
-use Rattle.sensor_desk.specs.Views.{notes_of}
+use Rattle.sensor_desk.specs.DeskRule.{NoteStands, IsPastOfDesk, IsReachedBy}
+use Rattle.sensor_desk.specs.Views.{View, notes_of}
 use Rattle.sensor_desk.specs.Words.{moment_word, held, words_of_entries, place_of_word}
 use Rattle.sensor_desk.specs.declared.view.About.{About}
 use Rattle.sensor_desk.specs.declared.view.Note.{Note}
-use Rattle.sensor_desk.specs.declared.view.Standing.{Standing}
-use Rattle.sensor_desk.specs.declared.view.Standing.TheVariants.{Live, Spent}
-use Rattle.sensor_desk.specs.declared.view.View.{View}
 use Rattle.sensor_desk.proofs.HistoryLemmas.{here, stands_on, history_sized}
-
--- what holds of each element holds of the one at a place
-pub all_at : {X : Type 0} (P : X → Type 0) (xs : List X) (i : ℕ) (x : X) → get_elem? xs i ≡ some x → All P xs → P x
-all_at P [] i x at all = absurd (some-ne-none x (sym at))
-all_at P (y ∷ ys) zero x at all = subst P (some-injective y x at) (All-head P y ys all)
-all_at P (y ∷ ys) (suc i) x at all = all_at P ys i x at (All-tail P y ys all)
 
 -- ---- words
 pub held_none : (word : ℕ) → word ≡ 0 → held word ≡ None
@@ -69,26 +63,22 @@ stands_still None = refl
 stands_still (Some moment) = refl
 
 -- ---- a step at the word of a link
-module _ (about : About) (s : State (Unit {0}) Standing) (reached : IsReachedBy about s) (id : ℕ) (link : LinkId) (is : link.0 < length about.net.value.links) where
+module _ (about : About) (words : List ℕ) (seats : List (Standing View)) (reached : IsReachedBy about words seats) (seat : ℕ) (link : LinkId) (is : link.0 < length about.net.value.links) where
   abbrev pub found : ℕ
-  found = get_or s.words (place_of_word link) 0
+  found = get_or words (place_of_word link) 0
 
   pub finds : held found ≡ moment_at reached.entries link
-  finds = ap (λ (ws : List ℕ). held (get_or ws (place_of_word link) 0)) reached.words ∙ (ap held (word_at reached.entries link) ∙ held_word (moment_at reached.entries link))
+  finds = ap (λ (ws : List ℕ). held (get_or ws (place_of_word link) 0)) reached.words_are ∙ (ap held (word_at reached.entries link) ∙ held_word (moment_at reached.entries link))
 
   module _ (post_moment : Option ℕ) where
     abbrev pub step : DeskStep
-    step = record { seat = id; link = link; post_moment = post_moment; found = held found }
+    step = record { seat = seat; link = link; post_moment = post_moment; found = held found }
 
     within : link.0 < length reached.entries
     within = subst (λ (n : ℕ). link.0 < n) (sym (history_sized (length about.net.value.links) reached.steps reached.entries reached.history)) is
 
-    note_on : (note : Note) → NoteStands reached.entries note → NoteStands (stepped reached.entries step) note
+    pub note_on : (note : Note) → NoteStands reached.entries note → NoteStands (stepped reached.entries step) note
     note_on note stands = stands_on reached.entries step within finds note.link note.moment stands
-
-    standing_on : (standing : Standing) → OfLive (IsKnownOfDesk about reached.entries) standing → OfLive (IsKnownOfDesk about (stepped reached.entries step)) standing
-    standing_on (Live view) known = record { about_is = known.about_is; notes = λ k d lt. note_on (get_or view.notes k d) (known.notes k d lt) }
-    standing_on Spent known = tt
 
     -- what stands for the link after the step, as a note
     pub noted_stands : (stands : Option ℕ) → noted_by step ≡ stands → All (NoteStands (stepped reached.entries step)) (notes_of link stands)
@@ -96,30 +86,20 @@ module _ (about : About) (s : State (Unit {0}) Standing) (reached : IsReachedBy 
     noted_stands (Some moment) is_some =
         All-push (NoteStands (stepped reached.entries step)) [] (record { link = link; moment = moment }) (All-nil (NoteStands (stepped reached.entries step))) (here reached.entries step within ∙ is_some)
 
-    pub reached_after : (word : ℕ) → word ≡ moment_word (noted_by step) → (standing : Standing) → OfLive (IsKnownOfDesk about (stepped reached.entries step)) standing
-        → IsReachedBy about record { words = set s.words (place_of_word link) word; homes = s.homes; views = set s.views id standing }
-    reached_after word noted standing known = record {
+    pub reached_after : (word : ℕ) → word ≡ moment_word (noted_by step) → (after : List (Standing View)) → AreKnown (NoteStands (stepped reached.entries step)) about after
+        → IsReachedBy about (set words (place_of_word link) word) after
+    reached_after word noted after known = record {
       steps = reached.steps ++ step ∷ [];
       entries = stepped reached.entries step;
       history = steps reached.steps (reached.steps ++ step ∷ []) reached.entries (stepped reached.entries step) step reached.history is finds refl refl;
-      words = ap (λ (ws : List ℕ). set ws (place_of_word link) word) reached.words ∙ words_after reached.entries step word noted;
-      seats = All-set (OfLive (IsKnownOfDesk about (stepped reached.entries step))) s.views id standing known (λ k d lt. standing_on (get_or s.views k d) (reached.seats k d lt));
+      words_are = ap (λ (ws : List ℕ). set ws (place_of_word link) word) reached.words_are ∙ words_after reached.entries step word noted;
+      known = known;
     }
 
-    -- what a live seat knows after the step, with notes that stand
-    pub known_after : (view after : View) → get_elem? s.views id ≡ some (Live view) → after.about ≡ view.about → (notes : List Note) → after.notes ≡ view.notes ++ notes
-        → All (NoteStands (stepped reached.entries step)) notes → IsKnownOfDesk about (stepped reached.entries step) after
-    known_after view after at same notes notes_are stand =
-        let known = all_at (OfLive (IsKnownOfDesk about reached.entries)) s.views id (Live view) at reached.seats in
-        let before = standing_on (Live view) known in record {
-          about_is = same ∙ known.about_is;
-          notes = subst (All (NoteStands (stepped reached.entries step))) (sym notes_are) (All-append (NoteStands (stepped reached.entries step)) view.notes notes before.notes stand);
-        }
-
 -- what a seat knows of the past
-pub past_of : (about : About) (s : State (Unit {0}) Standing) (reached : IsReachedBy about s) (id : ℕ) (view : View) → get_elem? s.views id ≡ some (Live view) → IsPastOfDesk view reached.entries
-past_of about s reached id view at =
-    let known = all_at (OfLive (IsKnownOfDesk about reached.entries)) s.views id (Live view) at reached.seats in record {
+pub past_of : (about : About) (words : List ℕ) (seats : List (Standing View)) (reached : IsReachedBy about words seats) (seat : ℕ) (view : View) → get_elem? seats seat ≡ some (Live view) → IsPastOfDesk view reached.entries
+past_of about words seats reached seat view at =
+    let known = known_at (NoteStands reached.entries) about seats reached.known seat view at in record {
       steps = reached.steps;
       history = subst (λ (a : About). DeskHistory (length a.net.value.links) reached.steps reached.entries) (sym known.about_is) reached.history;
       notes = known.notes;

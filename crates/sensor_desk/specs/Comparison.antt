@@ -18,10 +18,10 @@ use Rattle.execution_model.specs.declared.feed_answers.Finished.TheVariants as f
 use Rattle.sensor_desk.specs.DeskHistory.{Entries, moment_at}
 use Rattle.sensor_desk.specs.DeskRule.{IsPastOfDesk}
 use Rattle.sensor_desk.specs.Follower.{is_now}
+use Rattle.sensor_desk.specs.Views.{View}
 use Rattle.sensor_desk.specs.Words.{held, moment_word, place_of_word}
 use Rattle.sensor_desk.specs.declared.end.Closing.{Closing}
 use Rattle.sensor_desk.specs.declared.end.Closing.TheVariants.{Agreed, Differs}
-use Rattle.sensor_desk.specs.declared.view.View.{View}
 
 -- two moments are the same, or there is neither, by a test
 abbrev pub IsSame : Option ℕ → Option ℕ → Bool → Type 0

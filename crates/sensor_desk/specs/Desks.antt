@@ -1,28 +1,27 @@
 -- A desk and a seat at it, as callers see them, and the answers to a post, a read and a look. This project's own choice.
 use Rattle.std.specs.Prelude.{◌≡◌, ℕ, ◌<◌, length, Option, Some, None}
 use Rattle.atomic_table.specs.Seated.{TableId}
+use Rattle.shared_seats.specs.Seats.{SeatSeen}
 use Rattle.net_model.specs.declared.ids.LinkId.{LinkId}
 use Rattle.sensor_desk.specs.Steps.{IsFoundMoment}
-use Rattle.sensor_desk.specs.Views.{posted, read, looked}
+use Rattle.sensor_desk.specs.Views.{View, posted, read, looked}
 use Rattle.sensor_desk.specs.Words.{held}
 use Rattle.sensor_desk.specs.declared.post_result.Posted.{Posted}
 use Rattle.sensor_desk.specs.declared.post_result.Posted.TheVariants.{First, Before}
 use Rattle.sensor_desk.specs.declared.view.About.{About}
-use Rattle.sensor_desk.specs.declared.view.View.{View}
 
 -- which desk it is, and what it is about
 pub record DeskSeen : Type 0 where
   pub id : TableId
   pub about : About
 
--- the desk to which a seat belongs, and what the seat knows
-pub record DeskSeatSeen : Type 0 where
-  pub desk : TableId
-  pub view : View
+-- the words of the desk to which a seat belongs, and what the seat knows
+abbrev pub DeskSeatSeen : Type 0
+DeskSeatSeen = SeatSeen View
 
 -- a seat comes from a desk
 pub record IsSeatOfDesk (desk : DeskSeen) (seat : DeskSeatSeen) : Type 0 where
-  pub desk_is : seat.desk ≡ desk.id
+  pub desk_is : seat.table ≡ desk.id
   pub about_is : seat.view.about ≡ desk.about
 
 -- a link has a word at a desk
@@ -40,7 +39,7 @@ pub record Steps {X : Type 0} (answer_of : ℕ → X) (view_after : View → Lin
   pub word : ℕ
   pub found : IsFoundMoment before.view link word
   pub given : result ≡ answer_of word
-  pub after_is : after ≡ record { desk = before.desk; view = view_after before.view link word }
+  pub after_is : after ≡ record { table = before.table; view = view_after before.view link word }
 
 -- a seat posted a moment for a link: it was the first exactly if nothing stood
 abbrev pub Posts : DeskSeatSeen → DeskSeatSeen → LinkId → (moment : ℕ) → Posted → Type 0

@@ -12,11 +12,11 @@ use Rattle.execution_model.specs.Feeds.{Execution, IsFed}
 use Rattle.execution_model.specs.declared.feed_answers.Fed.{Fed}
 use Rattle.sensor_desk.specs.Desks.{DeskSeatSeen, Looks}
 use Rattle.sensor_desk.specs.Steps.{IsFoundMoment}
+use Rattle.sensor_desk.specs.Views.{View}
 use Rattle.sensor_desk.specs.Words.{held}
 use Rattle.sensor_desk.specs.declared.follow_result.Followed.{Followed}
 use Rattle.sensor_desk.specs.declared.follow_result.Followed.TheVariants as followed
 use Rattle.sensor_desk.specs.declared.view.Look.{Look}
-use Rattle.sensor_desk.specs.declared.view.View.{View}
 
 -- an execution is of a network: by its links, with as many points
 pub record IsExecutionFor (net : Plan) (execution : Execution) : Type 0 where
@@ -53,7 +53,7 @@ pub record AreFindings (net : Plan) (moments : Moments) (count : ℕ) (before af
   pub points : map (λ (finding : Finding). finding.point) findings ≡ open_among net moments count
   pub each : All (IsFinding net moments before.view) findings
   pub after_is :
-      after ≡ record { desk = before.desk; view = record before.view { looks = before.view.looks ++ map look_of findings } }
+      after ≡ record { table = before.table; view = record before.view { looks = before.view.looks ++ map look_of findings } }
 
 -- a moment was found that had passed
 abbrev pub has_gone : (moment : ℕ) → Option ℕ → Bool

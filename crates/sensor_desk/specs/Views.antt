@@ -1,27 +1,21 @@
 -- What the steps of a desk make of what its seats know. This project's own choice.
 use Rattle.std.specs.Prelude.{ℕ, ◌-◌, List, [], ◌∷◌, ◌++◌, Option, Some, None}
+use Rattle.shared_seats.specs.NotedViews.{bare_view}
+use Rattle.shared_seats.specs.declared.noted.Noted.{Noted}
 use Rattle.net_model.specs.declared.ids.LinkId.{LinkId}
 use Rattle.sensor_desk.specs.DeskHistory.{moment_standing_after}
 use Rattle.sensor_desk.specs.Words.{held}
 use Rattle.sensor_desk.specs.declared.view.About.{About}
+use Rattle.sensor_desk.specs.declared.view.Look.{Look}
 use Rattle.sensor_desk.specs.declared.view.Note.{Note}
-use Rattle.sensor_desk.specs.declared.view.View.{View}
 
--- a seat that has noted nothing and found nothing
-abbrev pub bare_view : About → ℕ → View
-bare_view about to_split = record { about = about; notes = []; looks = []; to_split = to_split }
+-- what a seat knows of its desk
+abbrev pub View : Type 0
+View = Noted About Note Look
 
 -- the first seat
 abbrev pub first_view : About → View
 first_view about = bare_view about (about.seats - 1)
-
--- a seat after another was split from it
-abbrev pub split_from : View → View
-split_from view = record view { to_split = view.to_split - 1 }
-
--- the seat that was split from another: it has noted nothing and found nothing
-abbrev pub split_off : View → View
-split_off view = bare_view view.about 0
 
 -- the note of a link, if a moment stands for it
 abbrev pub notes_of : LinkId → Option ℕ → List Note
@@ -43,7 +37,3 @@ posted view link word moment = noted view link word (moment_standing_after (held
 -- a seat after a read of a link that had this word
 abbrev pub read : View → LinkId → ℕ → View
 read view link word = noted view link word (held word)
-
--- a seat after another was joined into it
-abbrev pub joined_with : View → View → View
-joined_with view other = record view { notes = view.notes ++ other.notes }

@@ -2,18 +2,21 @@
 
 ghost use Rattle.std.specs.Prelude.{◌≡◌, ◌<◌, ◌≤◌, ◌^◌, ◌+◌, length, IfOk};
 ghost use Rattle.std.specs.Mem.Slots.{slots_items, slots_len, IsFull};
-ghost use Rattle.sensor_desk.specs.DeskRule.{IsLeft};
+ghost use Rattle.shared_seats.specs.NotedViews.{split_from, split_off, joined_with};
+ghost use Rattle.shared_seats.specs.Steps.{IsLast};
+ghost use Rattle.sensor_desk.specs.DeskRule.{IsReachedBy};
 ghost use Rattle.sensor_desk.specs.Limits.{most_desk_seats};
 ghost use Rattle.sensor_desk.specs.Desks.{IsSeatOfDesk, HasLink, Posts, ReadsLink, Looks};
-ghost use Rattle.sensor_desk.specs.Views.{first_view, split_from, split_off, joined_with};
+ghost use Rattle.sensor_desk.specs.Views.{first_view};
 ghost use Rattle.sensor_desk.specs.Words.{held};
 
 use crate::post_result::Posted;
-use crate::rule::{Histories, Joining, Looking, Posting, Reading, Splitting};
+use crate::rule::{Histories, Looking, Posting, Reading};
 use crate::seat::DeskSeat;
-use crate::view::{About, Standing};
-use atomic_table::{Closed, Table};
+use crate::view::{About, View};
+use atomic_table::Closed;
 use net_model::{LinkId, Network};
+use shared_seats::SharedWords;
 use std::alloc::{AllocError, Global};
 use std::marker::Model;
 use std::snapshot::Snapshot;
@@ -23,7 +26,7 @@ use std::snapshot::Snapshot;
 /// a seat of it.
 #[derive(Drop)]
 pub struct Desk {
-    table: Table<(), Standing, About, Histories, Global>,
+    words: SharedWords<View, About, Histories>,
 }
 
 impl Model for Desk {
@@ -35,11 +38,11 @@ impl Model for Desk {
     ghost coded = { desk_code };
 
     ghost view = { λ desk. record {
-      id = desk.table.shared.table_id;
-      about = desk.table.shared.key;
+      id = desk.words.id;
+      about = desk.words.key;
     } };
 
-    ghost invariant = { λ desk. IsDesk desk.table.shared.table_id desk.table.shared.key };
+    ghost invariant = { λ desk. IsDesk desk.words.id desk.words.key };
 }
 
 impl Desk {
@@ -52,7 +55,7 @@ impl Desk {
         ensures about { IfOk result (λ made. (made.0.about.net.value ≡ net.now)
             × (made.0.about.seats ≡ seats)) }
         ensures seat { IfOk result (λ made. made.1 ≡ record {
-          desk = made.0.id;
+          table = made.0.id;
           view = first_view made.0.about;
         }) }
     {
@@ -61,27 +64,19 @@ impl Desk {
             net: Snapshot::of(net),
             seats,
         };
-        let (table, place) = Table::of_words(alloc, words.as_slice(), &about)?;
-        Ok((
-            Desk { table },
-            DeskSeat {
-                place,
-                to_split: seats - 1,
-            },
-        ))
+        let (words, seat) = SharedWords::new(alloc, words.as_slice(), &about, seats - 1)?;
+        Ok((Desk { words }, seat))
     }
 
     /// Splits a seat from one that may split. The new seat has noted nothing, and may not split.
     pub fn split(&self, seat: &mut DeskSeat) -> DeskSeat
         requires seat { IsSeatOfDesk self.now seat.old }
         requires may { 0 < seat.old.view.to_split }
-        ensures from { seat.new ≡ record { desk = seat.old.desk; view = split_from seat.old.view } }
-        ensures off { result ≡ record { desk = seat.old.desk; view = split_off seat.old.view } }
+        ensures from { seat.new ≡ record { table = seat.old.table; view = split_from seat.old.view } }
+        ensures off { result ≡ record { table = seat.old.table; view = split_off seat.old.view } }
         ensures seats { IsSeatOfDesk self.now seat.new × IsSeatOfDesk self.now result }
     {
-        let place = self.table.shared.split_seat::<Splitting>(&mut seat.place);
-        seat.to_split -= 1;
-        DeskSeat { place, to_split: 0 }
+        self.words.split(seat)
     }
 
     /// Joins a seat into another, which then has the notes of both. What its own steps found stays
@@ -89,15 +84,12 @@ impl Desk {
     pub fn join(&self, into: &mut DeskSeat, from: DeskSeat)
         requires seats { IsSeatOfDesk self.now into.old × IsSeatOfDesk self.now from }
         ensures joined { into.new ≡ record {
-          desk = into.old.desk;
+          table = into.old.table;
           view = joined_with into.old.view from.view;
         } }
         ensures seat { IsSeatOfDesk self.now into.new }
     {
-        let DeskSeat { place, .. } = from;
-        self.table
-            .shared
-            .join_seat::<Joining>(&mut into.place, place);
+        self.words.join(into, from);
     }
 
     /// Posts the moment, below 2^63, at which a link was over: one atomic step. `First` exactly if
@@ -113,9 +105,8 @@ impl Desk {
     {
         let place = link.0 as usize + 1;
         let word = self
-            .table
-            .shared
-            .compare_exchange::<Posting>(&mut seat.place, place, 0, moment + 1);
+            .words
+            .compare_exchange::<Posting>(seat, place, 0, moment + 1);
         match moment_of_word(word) {
             None => Posted::First,
             Some(moment) => Posted::Before(moment),
@@ -131,7 +122,7 @@ impl Desk {
         ensures seat { IsSeatOfDesk self.now seat.new }
     {
         let place = link.0 as usize + 1;
-        let word = self.table.shared.load::<Reading>(&mut seat.place, place);
+        let word = self.words.load::<Reading>(seat, place);
         moment_of_word(word)
     }
 
@@ -142,21 +133,20 @@ impl Desk {
         ensures { Looks seat.old seat.new link result }
     {
         let place = link.0 as usize + 1;
-        let word = self.table.shared.load::<Looking>(&mut seat.place, place);
+        let word = self.words.load::<Looking>(seat, place);
         moment_of_word(word)
     }
 
     /// The words as they are at the end of a desk.
     pub(crate) fn into_words(self, seat: DeskSeat) -> Closed<(), Global>
         requires seat { IsSeatOfDesk self seat }
-        ensures left { IsLeft self.about seat.view (slots_items result.words) }
+        ensures left { IsLast (IsReachedBy self.about) seat.view (slots_items result.words) }
         ensures full { IsFull result.words }
         ensures count { slots_len result.words ≡ length self.about.net.value.links + 1 }
         ensures none { slots_len result.slots ≡ 0 }
     {
-        let Desk { table } = self;
-        let DeskSeat { place, .. } = seat;
-        table.close_with(place)
+        let Desk { words } = self;
+        words.close(seat)
     }
 }
 

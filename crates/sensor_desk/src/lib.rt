@@ -29,4 +29,4 @@ pub use feeder::{Feeder, NoPostGate, PostGate};
 pub use follow_result::Followed;
 pub use post_result::Posted;
 pub use seat::DeskSeat;
-pub use view::{About, Look, Note, Standing, View};
+pub use view::{About, Look, Note, View};

@@ -1,7 +1,7 @@
-//! What is known of a desk and of its seats. Values of `View` and `Standing` stand in contracts
-//! only: none is made.
+//! What is known of a desk and of its seats.
 
 use net_model::{LinkId, Network};
+use shared_seats::Noted;
 use std::snapshot::Snapshot;
 
 /// The network of a desk, and how many seats there may be.
@@ -26,19 +26,4 @@ pub struct Look {
 }
 
 /// What a seat knows of its desk.
-pub struct View {
-    pub about: About,
-    /// Its notes, and those of the seats that were joined into it. A clause reads an array as a
-    /// list, of any length.
-    pub notes: [Note; 0],
-    /// What its own steps found.
-    pub looks: [Look; 0],
-    /// How many seats may still be split from it.
-    pub to_split: u32,
-}
-
-/// A seat that may step, with what it knows, or one that was joined into another.
-pub enum Standing {
-    Live(View),
-    Spent,
-}
+pub type View = Noted<About, Note, Look>;
