@@ -56,7 +56,8 @@ module _ (about : About) (view : View) (link : LinkId) (is : link.0 < length abo
           },
         )
 
-    pub allows : (told : About) → told ≡ about → (place : ℕ) → place ≡ place_of_word link → MayStep (IsReachedBy told) count_to_split place word_after view (λ word after. StepFound (λ v l. after_of v l word) place view word after)
+    pub allows : (told : About) → told ≡ about → (place : ℕ) → place ≡ place_of_word link
+        → MayStep (IsReachedBy told) count_to_split place word_after view (λ word after. StepFound (λ v l. after_of v l word) place view word after)
     allows told same_about place at =
         subst (λ (p : About × ℕ). MayStep (IsReachedBy p.0) count_to_split p.1 word_after view (λ word after. StepFound (λ v l. after_of v l word) p.1 view word after)) (λ i. (sym same_about i, sym at i)) allowed
 

@@ -72,7 +72,10 @@ impl Desk {
     pub fn split(&self, seat: &mut DeskSeat) -> DeskSeat
         requires seat { IsSeatOfDesk self.now seat.old }
         requires may { 0 < seat.old.view.to_split }
-        ensures from { seat.new ≡ record { table = seat.old.table; view = split_from seat.old.view } }
+        ensures from { seat.new ≡ record {
+          table = seat.old.table;
+          view = split_from seat.old.view;
+        } }
         ensures off { result ≡ record { table = seat.old.table; view = split_off seat.old.view } }
         ensures seats { IsSeatOfDesk self.now seat.new × IsSeatOfDesk self.now result }
     {

@@ -22,7 +22,8 @@ module _ {V K : Type 0} (nothing : V) (holds : K → List ℕ → List (Standing
     live_now = live ∙ ap (λ (s : SeatSeen V). (Live s.view, [])) view_is
 
     -- ---- a step at a word
-    pub steps : (count : V → ℕ) (finding : ℕ → ℕ → ℕ → V → ℕ → V → Type 0) (slots word first second : ℕ) (after : ℕ → ℕ) → MayStep (holds seen) count word after seat.view (finding word first second seat.view)
+    pub steps : (count : V → ℕ) (finding : ℕ → ℕ → ℕ → V → ℕ → V → Type 0) (slots word first second : ℕ) (after : ℕ → ℕ)
+        → MayStep (holds seen) count word after seat.view (finding word first second seat.view)
         → Allows (Holds key) slots place.id place.me word after (shown count finding (step slots word first second none) place.me)
     steps count finding slots word first second after may =
         subst (λ (k : K). Allows (Holds k) slots place.id place.me word after (shown count finding (step slots word first second none) place.me)) (sym same)

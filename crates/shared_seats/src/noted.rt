@@ -2,9 +2,9 @@
 
 use crate::known::Known;
 
-/// What words are about, of whose steps notes are taken.
+/// What shared words are about whose seats take notes.
 pub trait Subject {
-    // Any value.
+    /// Any value.
     ghost any: { Self };
 }
 

@@ -1,6 +1,7 @@
 //! Shared words, and the steps of their seats.
 
-ghost use Rattle.std.specs.Prelude.{◌≡◌, ◌+◌, ◌%◌, ◌^◌, ◌<◌, [], ◌∷◌, ◌==◌, min, length, IfOk, if◌then◌else◌};
+ghost use Rattle.std.specs.Prelude.{◌≡◌, ◌+◌, ◌%◌, ◌^◌, ◌<◌, ◌==◌, [], ◌∷◌, min, length};
+ghost use Rattle.std.specs.Prelude.{IfOk, if◌then◌else◌};
 ghost use Rattle.std.specs.Mem.Slots.{slots_items, slots_len, IsFull};
 ghost use Rattle.shared_seats.specs.Steps.{MayStep, MaySplit, MayJoin, IsLast};
 ghost use Rattle.shared_seats.specs.declared.standing.Standing.TheVariants.{Live};
