@@ -5,7 +5,7 @@ mod StandsLemmas
 mod ShownLemmas
 mod OwnLemmas
 mod ReportedLineLemmas
-mod RunningPlanLemmas
+mod OpenedPlanLemmas
 mod StartLemmas
 mod SlotLemmas
 mod CapacityLemmas

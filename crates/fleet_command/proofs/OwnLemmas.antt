@@ -1,5 +1,5 @@
 -- What one plan of a fleet says to a line of its own.
-use Rattle.std.proofs.Common.{◌≡◌, inl, inr, ℕ, ◌≤◌, Bool, true, false, List, [], ◌∷◌, Option, Some, None, refl, sym, ap, subst, arith}
+use Rattle.std.proofs.Common.{◌≡◌, inl, inr, ℕ, ◌≤◌, Bool, true, false, List, [], ◌∷◌, Option, Some, None, refl, sym, ap, ◌∙◌, subst, arith}
 use Rattle.std.specs.Prelude.{codes}
 use Rattle.std.specs.Fmt.{decimal}
 use Rattle.texts.specs.PrintedLines.{joined, printed_line}
@@ -9,7 +9,7 @@ use Rattle.net_model.specs.NetworkParts.{point_name}
 use Rattle.net_model.specs.ShownForm.{shown_form}
 use Rattle.net_model.specs.declared.format.FormatKind.{FormatKind}
 use Rattle.net_model.specs.declared.format.FormatKind.TheVariants as kind
-use Rattle.event_stream.specs.EventText.{EventLine, blank, completed, done, IsEventLine, IsEventFault}
+use Rattle.event_stream.specs.EventText.{EventLine, blank, completed, done, after_at, after_done, unknown_word, IsEventLine, IsEventFault}
 use Rattle.execution_model.specs.Feeds.{Execution}
 use Rattle.execution_model.specs.declared.feed_answers.Act.{Act}
 use Rattle.execution_model.specs.declared.feed_answers.Fed.{Fed}
@@ -32,7 +32,9 @@ use Rattle.common_answers.specs.declared.faults.Fault.TheVariants.{Format}
 use Rattle.plan_fleet.specs.FleetPlans.{FleetPlan}
 use Rattle.event_phase.proofs.FeedAnswerLemmas.{reported_answers, fault_answers}
 use Rattle.fleet_command.proofs.ShownLemmas.{fault_shown, line_shown}
-use Rattle.fleet_command.specs.FleetStands.{SaysLine, SaysReported, stands_of, stands_capacity}
+use Rattle.plan_fleet.specs.declared.plan_execution.PlanExecution.{PlanExecution}
+use Rattle.plan_fleet.specs.declared.plan_execution.PlanExecution.TheVariants.{NotControllable, Running, Complete, Ended}
+use Rattle.fleet_command.specs.FleetStands.{SaysIdle, SaysLine, SaysStated, stands_by, stands_of, stands_capacity}
 
 -- ---- the answers to events end with a line end
 pub printed_whole : (words : List (List ℕ)) → IsOfWholeLines (printed_line words)
@@ -128,14 +130,49 @@ reports_itself blank = refl
 reports_itself (completed moment points) = (points, refl, refl)
 reports_itself done = refl
 
+-- what one says that does not run it says to each line that is not passed over
+pub idle_says : (number : ℕ) (line said : List ℕ) (old new : FleetPlan) → are_passed_over (words line) ≡ false → SaysIdle said old new → SaysLine number line said old new
+idle_says number line said old new stays idle = record {
+  net = ap (λ (p : FleetPlan). p.net) idle.same;
+  says =
+      subst (λ (s : MemberState EventRun). SaysLineAlone executing_machine s number line said (stands_of new)) (sym idle.stands)
+      (idle.says ∙ sym (ap idle_said stays), ap stands_of idle.same ∙ idle.stands);
+}
+
+-- a line that is passed over changes nothing
+blank_alone : (net : Plan) (number : ℕ) (line said : List ℕ) (execution : PlanExecution) → said ≡ [] → IsEventLine net blank line
+    → SaysLineAlone executing_machine (stands_by net execution) number line said (stands_by net execution)
+blank_alone net number line said (Running execution) nothing is =
+    let event_run = event_run_of (shown_form net) execution in
+    (Continue event_run, reported_answers event_run number line blank said (Continue event_run) (line_shown net blank line is) (blank, refl, (nothing, refl)), refl)
+blank_alone net number line said NotControllable nothing is = (nothing ∙ sym (ap idle_said is), refl)
+blank_alone net number line said (Complete execution) nothing is = (nothing ∙ sym (ap idle_said is), refl)
+blank_alone net number line said (Ended execution) nothing is = (nothing ∙ sym (ap idle_said is), refl)
+
+pub blank_says : (number : ℕ) (line said : List ℕ) (plan : FleetPlan) → said ≡ [] → IsEventLine plan.net blank line → SaysLine number line said plan plan
+blank_says number line said plan nothing is = record { net = refl; says = blank_alone plan.net number line said plan.execution nothing is }
+
+-- a line that states something that a plan is told is not passed over, and neither is one with a fault
+pub stated_stays : (net : Plan) (reported : EventLine) (line : List ℕ) → IsEventLine net reported line → (reported ≡ blank → ⊥) → are_passed_over (words line) ≡ false
+stated_stays net blank line is never = absurd (never refl)
+stated_stays net (completed moment points) line is never = ap are_passed_over is.spelled
+stated_stays net done line is never = ap are_passed_over is
+
+pub fault_stays : (net : Plan) (kind : FormatKind) (line : List ℕ) → IsEventFault net line kind → are_passed_over (words line) ≡ false
+fault_stays net kind line (unknown_word stays at done_first is) = stays
+fault_stays net kind line (after_at others is fault) = ap are_passed_over is
+fault_stays net kind line (after_done next others is same) = ap are_passed_over is
+
 -- what a plan says to what a line states it says to the line
-pub reported_says : (number : ℕ) (line said : List ℕ) (reported : EventLine) (old new : FleetPlan) → IsEventLine old.net reported line → SaysReported number reported said old new → SaysLine number line said old new
-reported_says number line said reported old new is says = record {
+pub reported_says : (number : ℕ) (line said : List ℕ) (reported : EventLine) (old new : FleetPlan) → IsEventLine old.net reported line → (reported ≡ blank → ⊥) → SaysStated number reported said old new
+    → SaysLine number line said old new
+reported_says number line said reported old new is never (inl says) = record {
   net = says.net;
   says =
       subst (λ (s : MemberState EventRun). SaysLineAlone executing_machine s number line said (stands_of new)) (sym says.was)
       (says.flow, reported_answers (event_run_of (shown_form old.net) says.execution) number line reported said says.flow (line_shown old.net reported line is) (reported, reports_itself reported, says.answers), says.stands);
 }
+reported_says number line said reported old new is never (inr idle) = idle_says number line said old new (stated_stays old.net reported line is never) idle
 
 -- if a line states nothing it says why, and is idle
 pub fault_says : (number : ℕ) (line said : List ℕ) (kind : FormatKind) (old new : FleetPlan) (execution : Execution) → stands_of old ≡ Runs (event_run_of (shown_form old.net) execution) → stands_of new ≡ Idle → new.net ≡ old.net

@@ -1,11 +1,11 @@
 -- What a plan that runs says to what a line states, by what its fleet answers.
-use Rattle.std.proofs.Common.{◌≡◌, ◌≤◌, ℕ, List, [], length, Option, Some, None, refl, sym, ap, ◌∙◌, subst, arith}
+use Rattle.std.proofs.Common.{◌≡◌, inl, inr, ◌≤◌, ℕ, false, List, length, Option, Some, None, refl, sym, ap, ◌∙◌, subst, arith}
 use Rattle.std.specs.Prelude.{slice_get, slice_set}
 use Rattle.std.specs.List.{All}
 use Rattle.net_model.specs.Network.{Plan, IsPoint}
 use Rattle.net_model.specs.ShownForm.{shown_form}
 use Rattle.net_model.specs.declared.ids.PointId.{PointId}
-use Rattle.event_stream.specs.EventText.{blank, completed, done}
+use Rattle.event_stream.specs.EventText.{completed, done}
 use Rattle.execution_model.specs.Feeds.{Execution, IsDueAnswer}
 use Rattle.execution_model.specs.declared.feed_answers.Act.{Act}
 use Rattle.execution_model.specs.declared.feed_answers.Fed.{Fed}
@@ -14,45 +14,46 @@ use Rattle.execution_model.specs.declared.feed_answers.Finished.{Finished}
 use Rattle.execution_model.specs.declared.feed_answers.Finished.TheVariants as finished
 use Rattle.command_engine.specs.declared.endings.End.{End}
 use Rattle.command_engine.specs.declared.machines.Flow.TheVariants.{Continue, Finish}
-use Rattle.multiplexed_commands.specs.Alone.{Runs, Idle, stands_after}
-use Rattle.event_phase.specs.EventRuns.{event_run_of}
-use Rattle.event_phase.specs.EventPhase.{AnswersEnd, EndsAmong, FeedsAmong, PutsFed}
+use Rattle.multiplexed_commands.specs.Alone.{MemberState, Runs, Idle, idle_said, stands_after}
+use Rattle.event_phase.specs.EventRuns.{EventRun, event_run_of}
+use Rattle.event_phase.specs.EventPhase.{AnswersEnd, EndsAmong, FeedsAmong, PutsFed, answer_capacity}
 use Rattle.event_phase.proofs.FeedAnswerLemmas.{ends_among, fed_answers, feeds_among, flow_of}
 use Rattle.multiplexed_commands.proofs.ProjectionLemmas.{set_here}
 use Rattle.plan_fleet.specs.Fleets.{AtPlan, ChangesOne}
-use Rattle.plan_fleet.specs.FleetPlans.{FeedsPlan, FinishesPlan, FleetPlan, IsFedPlan, IsFinishedPlan, IsFleetPlan, state_fed, state_finished}
+use Rattle.plan_fleet.specs.FleetPlans.{FeedsPlan, FinishesPlan, FleetPlan, IsFedPlan, IsFinishedPlan, IsFleetPlan, IsRunning}
 use Rattle.plan_fleet.specs.declared.states.FleetFed.{FleetFed}
 use Rattle.plan_fleet.specs.declared.states.FleetFed.TheVariants as fleet_fed
 use Rattle.plan_fleet.specs.declared.states.FleetFinished.{FleetFinished}
 use Rattle.plan_fleet.specs.declared.states.FleetFinished.TheVariants as fleet_finished
+use Rattle.plan_fleet.specs.PlanExecutions.{execution_after_feed, execution_after_finish, execution_of, state_of}
+use Rattle.plan_fleet.specs.declared.plan_execution.PlanExecution.{PlanExecution}
+use Rattle.plan_fleet.specs.declared.plan_execution.PlanExecution.TheVariants.{NotControllable, Running, Complete, Ended}
 use Rattle.plan_fleet.specs.declared.states.State.{State}
 use Rattle.plan_fleet.specs.declared.states.State.TheVariants as state
 use Rattle.fleet_command.proofs.ShownLemmas.{ends_shown, puts_shown}
-use Rattle.fleet_command.specs.FleetStands.{RunsAt, SaysReported, stands_by, stands_of}
+use Rattle.fleet_command.specs.FleetStands.{SaysIdle, SaysReported, SaysStated, said_capacity, slot_stands, stands_at, stands_by, stands_of}
+use Rattle.fleet_command.specs.declared.entries.FleetSlot.TheVariants.{Opened}
 
 -- a plan that runs, with its execution
-pub runs_so : (plan : FleetPlan) (execution : Execution) → plan.state ≡ state.Running → plan.execution ≡ Some execution → stands_of plan ≡ Runs (event_run_of (shown_form plan.net) execution)
-runs_so plan execution runs is = ap (λ (s : State). stands_by plan.net s plan.execution) runs ∙ ap (λ (e : Option Execution). stands_by plan.net state.Running e) is
+pub runs_so : (plan : FleetPlan) (execution : Execution) → plan.execution ≡ Running execution → stands_of plan ≡ Runs (event_run_of (shown_form plan.net) execution)
+runs_so plan execution is = ap (λ (e : PlanExecution). stands_by plan.net e) is
 
-pub ended_so : (plan : FleetPlan) → plan.state ≡ state.Ended → stands_of plan ≡ Idle
-ended_so plan is = ap (λ (s : State). stands_by plan.net s plan.execution) is
+pub running_of : (of : PlanExecution) → state_of of ≡ state.Running → (execution : Execution) × (of ≡ Running execution)
+running_of NotControllable runs = absurd (cc runs)
+running_of (Running execution) runs = (execution, refl)
+running_of (Complete execution) runs = absurd (cc runs)
+running_of (Ended execution) runs = absurd (cc runs)
 
--- a line that is passed over changes nothing
-pub says_nothing : (plan : FleetPlan) (number : ℕ) (said : List ℕ) → IsFleetPlan plan → plan.state ≡ state.Running → said ≡ [] → SaysReported number blank said plan plan
-says_nothing plan number said is runs nothing =
-    let (execution, has, goes) = is.runs runs in
-    record {
-      net = refl;
-      execution = execution;
-      was = runs_so plan execution runs has;
-      flow = Continue (event_run_of (shown_form plan.net) execution);
-      answers = (nothing, refl);
-      stands = runs_so plan execution runs has;
-    }
+-- one that does not run
+pub not_running : (net : Plan) (of : PlanExecution) → (state_of of ≡ state.Running → ⊥) → stands_by net of ≡ Idle
+not_running net NotControllable never = refl
+not_running net (Running execution) never = absurd (never refl)
+not_running net (Complete execution) never = refl
+not_running net (Ended execution) never = refl
 
 -- a fed plan goes on exactly if its feed does not end it
 after_feed : (net : Plan) (execution after : Execution) (answer : Fed) (number : ℕ) (due : Option ℕ) (put : List ℕ) (ended : Option End) → PutsFed net number answer after.acts due put ended
-    → stands_by net (state_fed answer) (Some after) ≡ stands_after (flow_of (event_run_of (shown_form net) execution) after ended)
+    → stands_by net (execution_after_feed answer (Running after)) ≡ stands_after (flow_of (event_run_of (shown_form net) execution) after ended)
 after_feed net execution after fed.Acts number due put None puts = refl
 after_feed net execution after fed.Acts number due put (Some end) puts = absurd (cc (puts.1))
 after_feed net execution after (fed.Refused why) number due put None puts = absurd (cc (puts.1))
@@ -67,14 +68,14 @@ feed_says old new number moment listed answer fed_so due put ended next puts =
     record {
       net = ap (λ (p : FleetPlan). p.net) fed_so.is;
       execution = fed_so.execution;
-      was = runs_so old fed_so.execution fed_so.runs fed_so.was;
+      was = runs_so old fed_so.execution fed_so.was;
       flow = flow_of event_run fed_so.then_execution ended;
       answers =
           fed_answers event_run number moment listed answer fed_so.then_execution due put ended fed_so.feeds next (puts_shown old.net number answer fed_so.then_execution.acts due put ended puts);
       stands = ap stands_of fed_so.is ∙ after_feed old.net fed_so.execution fed_so.then_execution answer number due put ended puts;
     }
 
-after_finish : (net : Plan) (after : Execution) (answer : Finished) (end : End) → stands_by net (state_finished answer) (Some after) ≡ stands_after (Finish end)
+after_finish : (net : Plan) (after : Execution) (answer : Finished) (end : End) → stands_by net (execution_after_finish answer (Running after)) ≡ stands_after (Finish end)
 after_finish net after finished.Complete end = refl
 after_finish net after (finished.Unfinished point) end = refl
 after_finish net after (finished.Ended why) end = refl
@@ -85,7 +86,7 @@ finish_says old new number answer finished_so put end puts =
     record {
       net = ap (λ (p : FleetPlan). p.net) finished_so.is;
       execution = finished_so.execution;
-      was = runs_so old finished_so.execution finished_so.runs finished_so.was;
+      was = runs_so old finished_so.execution finished_so.was;
       flow = Finish end;
       answers = (answer, finished_so.then_execution, finished_so.finishes, ends_shown old.net number answer finished_so.then_execution.acts put (Finish end) puts);
       stands = ap stands_of finished_so.is ∙ after_finish old.net finished_so.then_execution answer end;
@@ -95,12 +96,29 @@ finish_says old new number answer finished_so put end puts =
 pub at_here : (Is : FleetPlan → Type 0) (fleet : List FleetPlan) (place : ℕ) (plan : FleetPlan) → AtPlan fleet place Is → slice_get fleet place ≡ Some plan → Is plan
 at_here Is fleet place plan (member, here, is) there = let same : member ≡ plan = cc (sym here ∙ there) in subst Is same is
 
+-- the capacity of the answer of one that runs
+pub runs_size : (fleet : List FleetPlan) (place size : ℕ) (plan : FleetPlan) (execution : Execution) → slice_get fleet place ≡ Some plan → plan.execution ≡ Running execution → size ≤ answer_capacity plan.net
+    → size ≤ said_capacity (slot_stands fleet (Opened place))
+runs_size fleet place size plan execution here is fits =
+    subst (λ (s : MemberState EventRun). size ≤ said_capacity s) (sym (ap stands_at here ∙ runs_so plan execution is)) fits
+
+-- the execution of one that was fed, or finished
+fed_execution : (answer : Fed) (execution : Execution) → execution_of (execution_after_feed answer (Running execution)) ≡ Some execution
+fed_execution fed.Acts execution = refl
+fed_execution (fed.Refused why) execution = refl
+fed_execution (fed.Ended why) execution = refl
+
+finished_execution : (answer : Finished) (execution : Execution) → execution_of (execution_after_finish answer (Running execution)) ≡ Some execution
+finished_execution finished.Complete execution = refl
+finished_execution (finished.Unfinished point) execution = refl
+finished_execution (finished.Ended why) execution = refl
+
 -- what acts of a plan, and its next due moment, are
 abbrev pub HasActs : List Act → FleetPlan → Type 0
-HasActs acts member = (execution : Execution) → member.execution ≡ Some execution → acts ≡ execution.acts
+HasActs acts member = (execution : Execution) → execution_of member.execution ≡ Some execution → acts ≡ execution.acts
 
 abbrev pub HasDue : Option ℕ → FleetPlan → Type 0
-HasDue due member = (execution : Execution) → member.execution ≡ Some execution → IsDueAnswer execution due
+HasDue due member = (execution : Execution) → execution_of member.execution ≡ Some execution → IsDueAnswer execution due
 
 abbrev pub HasFew : List Act → FleetPlan → Type 0
 HasFew acts member = length acts ≤ length member.net.points
@@ -130,17 +148,21 @@ fed_at fleet after place moment listed answer reported is changes =
       fed_so = one.changes;
     }
 
-pub fed_never_idle : (fleet after : List FleetPlan) (place moment capacity : ℕ) (listed : List PointId) (reported : FleetFed) → RunsAt fleet place capacity → reported ≡ fleet_fed.Idle → FedBy fleet place moment listed reported after → ⊥
-fed_never_idle fleet after place moment capacity listed reported runs is changes =
+-- one that does not run, and stays as it is
+pub says_idle : (said : List ℕ) (old new : FleetPlan) → ¬ IsRunning old → new ≡ old → said ≡ idle_said false → SaysIdle said old new
+says_idle said old new never same says = record { stands = not_running old.net old.execution never; says = says; same = same }
+
+pub fed_idle : (fleet after : List FleetPlan) (place moment number : ℕ) (listed : List PointId) (reported : FleetFed) (said : List ℕ) → reported ≡ fleet_fed.Idle → FedBy fleet place moment listed reported after
+    → said ≡ idle_said false → ChangesOne fleet place (SaysStated number (completed moment listed) said) after
+fed_idle fleet after place moment number listed reported said is changes says =
     let one : FedBy fleet place moment listed fleet_fed.Idle after = subst (λ (t : FleetFed). FedBy fleet place moment listed t after) is changes in
-    let same : runs.plan ≡ one.old = cc (sym runs.here ∙ one.was) in
-    one.changes.0 (subst (λ (p : FleetPlan). p.state ≡ state.Running) same runs.runs)
+    record { old = one.old; new = one.new; was = one.was; changes = inr (says_idle said one.old one.new one.changes.0 one.changes.1 says); is = one.is }
 
 module _ (fleet after : List FleetPlan) (place moment : ℕ) (listed : List PointId) (answer : Fed) (at : FedAt fleet place moment listed answer after) (sound : AtPlan fleet place IsFleetPlan)
     (still : AtPlan after place IsFleetPlan) (acts : List Act)
     (value : AtPlan after place (HasActs acts)) where
-  then_is : at.new.execution ≡ Some at.fed_so.then_execution
-  then_is = ap (λ (p : FleetPlan). p.execution) at.fed_so.is
+  then_is : execution_of at.new.execution ≡ Some at.fed_so.then_execution
+  then_is = ap (λ (p : FleetPlan). execution_of p.execution) at.fed_so.is ∙ fed_execution answer at.fed_so.then_execution
 
   pub fed_net : at.new.net ≡ at.old.net
   fed_net = ap (λ (p : FleetPlan). p.net) at.fed_so.is
@@ -153,29 +175,31 @@ module _ (fleet after : List FleetPlan) (place moment : ℕ) (listed : List Poin
   fed_among few all =
       let before = at_here IsFleetPlan fleet place at.old sound at.was in
       let later = at_here IsFleetPlan after place at.new still at.there in
-      let (execution, has, goes) = before.runs at.fed_so.runs in
-      let one : execution ≡ at.fed_so.execution = cc (sym has ∙ at.fed_so.was) in
-      let going : at.fed_so.execution.refused ≡ None = subst (λ (e : Execution). e.refused ≡ None) one goes in
+      let going = before.runs at.fed_so.execution at.fed_so.was in
       let short : length acts ≤ length at.new.net.points = at_here (HasFew acts) after place at.new few at.there in
       let points : length at.fed_so.then_execution.setting.dispatch ≡ length at.new.net.points = later.points at.fed_so.then_execution then_is in
       let least : length at.fed_so.then_execution.acts ≤ length at.fed_so.then_execution.setting.dispatch =
       subst (λ (a : List Act). length a ≤ length at.fed_so.then_execution.setting.dispatch) fed_acts_are (omega (arith, short, points)) in
       subst (FeedsAmong at.old.net answer) (sym fed_acts_are)
-      (feeds_among at.old.net at.fed_so.execution moment listed answer at.fed_so.then_execution going (before.points at.fed_so.execution at.fed_so.was) all at.fed_so.feeds least)
+      (feeds_among at.old.net at.fed_so.execution moment listed answer at.fed_so.then_execution going (before.points at.fed_so.execution (ap execution_of at.fed_so.was)) all at.fed_so.feeds least)
 
   -- and it is said to what the line states
   pub fed_changes : (number : ℕ) (due : Option ℕ) (put : List ℕ) (ended : Option End)
       → AtPlan after place (HasDue due) → PutsFed at.old.net number answer acts due put ended
-      → ChangesOne fleet place (SaysReported number (completed moment listed) put) after
+      → ChangesOne fleet place (SaysStated number (completed moment listed) put) after
   fed_changes number due put ended next puts = record {
     old = at.old;
     new = at.new;
     was = at.was;
     changes =
-        feed_says at.old at.new number moment listed answer at.fed_so due put ended (at_here (HasDue due) after place at.new next at.there at.fed_so.then_execution then_is)
-        (subst (λ (a : List Act). PutsFed at.old.net number answer a due put ended) fed_acts_are puts);
+        inl (feed_says at.old at.new number moment listed answer at.fed_so due put ended (at_here (HasDue due) after place at.new next at.there at.fed_so.then_execution then_is)
+        (subst (λ (a : List Act). PutsFed at.old.net number answer a due put ended) fed_acts_are puts));
     is = at.is;
   }
+
+  -- and takes no more than its capacity
+  pub fed_size : (size : ℕ) → size ≤ answer_capacity at.old.net → size ≤ said_capacity (slot_stands fleet (Opened place))
+  fed_size size fits = runs_size fleet place size at.old at.fed_so.execution at.was at.fed_so.was fits
 
 -- a plan that was finished, and the one in its place after it
 pub record FinishedAt (fleet : List FleetPlan) (place : ℕ) (answer : Finished) (after : List FleetPlan) : Type 0 where
@@ -201,16 +225,16 @@ finished_at fleet after place answer reported is changes =
       finished_so = one.changes;
     }
 
-pub finished_never_idle : (fleet after : List FleetPlan) (place capacity : ℕ) (reported : FleetFinished) → RunsAt fleet place capacity → reported ≡ fleet_finished.Idle → FinishedBy fleet place reported after → ⊥
-finished_never_idle fleet after place capacity reported runs is changes =
+pub finished_idle : (fleet after : List FleetPlan) (place number : ℕ) (reported : FleetFinished) (said : List ℕ) → reported ≡ fleet_finished.Idle → FinishedBy fleet place reported after
+    → said ≡ idle_said false → ChangesOne fleet place (SaysStated number done said) after
+finished_idle fleet after place number reported said is changes says =
     let one : FinishedBy fleet place fleet_finished.Idle after = subst (λ (t : FleetFinished). FinishedBy fleet place t after) is changes in
-    let same : runs.plan ≡ one.old = cc (sym runs.here ∙ one.was) in
-    one.changes.0 (subst (λ (p : FleetPlan). p.state ≡ state.Running) same runs.runs)
+    record { old = one.old; new = one.new; was = one.was; changes = inr (says_idle said one.old one.new one.changes.0 one.changes.1 says); is = one.is }
 
 module _ (fleet after : List FleetPlan) (place : ℕ) (answer : Finished) (at : FinishedAt fleet place answer after) (sound : AtPlan fleet place IsFleetPlan) (still : AtPlan after place IsFleetPlan) (acts : List Act)
     (value : AtPlan after place (HasActs acts)) where
-  finished_is : at.new.execution ≡ Some at.finished_so.then_execution
-  finished_is = ap (λ (p : FleetPlan). p.execution) at.finished_so.is
+  finished_is : execution_of at.new.execution ≡ Some at.finished_so.then_execution
+  finished_is = ap (λ (p : FleetPlan). execution_of p.execution) at.finished_so.is ∙ finished_execution answer at.finished_so.then_execution
 
   pub finished_net : at.new.net ≡ at.old.net
   finished_net = ap (λ (p : FleetPlan). p.net) at.finished_so.is
@@ -222,21 +246,22 @@ module _ (fleet after : List FleetPlan) (place : ℕ) (answer : Finished) (at : 
   finished_among few =
       let before = at_here IsFleetPlan fleet place at.old sound at.was in
       let later = at_here IsFleetPlan after place at.new still at.there in
-      let (execution, has, goes) = before.runs at.finished_so.runs in
-      let one : execution ≡ at.finished_so.execution = cc (sym has ∙ at.finished_so.was) in
-      let going : at.finished_so.execution.refused ≡ None = subst (λ (e : Execution). e.refused ≡ None) one goes in
+      let going = before.runs at.finished_so.execution at.finished_so.was in
       let short : length acts ≤ length at.new.net.points = at_here (HasFew acts) after place at.new few at.there in
       let points : length at.finished_so.then_execution.setting.dispatch ≡ length at.new.net.points = later.points at.finished_so.then_execution finished_is in
       let least : length at.finished_so.then_execution.acts ≤ length at.finished_so.then_execution.setting.dispatch =
       subst (λ (a : List Act). length a ≤ length at.finished_so.then_execution.setting.dispatch) finished_acts_are (omega (arith, short, points)) in
       subst (EndsAmong at.old.net answer) (sym finished_acts_are)
-      (ends_among at.old.net at.finished_so.execution answer at.finished_so.then_execution going (before.points at.finished_so.execution at.finished_so.was) at.finished_so.finishes least)
+      (ends_among at.old.net at.finished_so.execution answer at.finished_so.then_execution going (before.points at.finished_so.execution (ap execution_of at.finished_so.was)) at.finished_so.finishes least)
 
-  pub finished_changes : (number : ℕ) (put : List ℕ) (end : End) → AnswersEnd at.old.net number answer acts put (Finish end) → ChangesOne fleet place (SaysReported number done put) after
+  pub finished_changes : (number : ℕ) (put : List ℕ) (end : End) → AnswersEnd at.old.net number answer acts put (Finish end) → ChangesOne fleet place (SaysStated number done put) after
   finished_changes number put end puts = record {
     old = at.old;
     new = at.new;
     was = at.was;
-    changes = finish_says at.old at.new number answer at.finished_so put end (subst (λ (a : List Act). AnswersEnd at.old.net number answer a put (Finish end)) finished_acts_are puts);
+    changes = inl (finish_says at.old at.new number answer at.finished_so put end (subst (λ (a : List Act). AnswersEnd at.old.net number answer a put (Finish end)) finished_acts_are puts));
     is = at.is;
   }
+
+  pub finished_size : (size : ℕ) → size ≤ answer_capacity at.old.net → size ≤ said_capacity (slot_stands fleet (Opened place))
+  finished_size size fits = runs_size fleet place size at.old at.finished_so.execution at.was at.finished_so.was fits

@@ -1,37 +1,31 @@
 -- What the answer to a line of one plan changes of its fleet.
-use Rattle.std.proofs.Common.{◌≡◌, ◌≤◌, ℕ, List, length, map, Option, Some, refl, sym, ap, ◌∙◌, subst}
+use Rattle.std.proofs.Common.{◌≡◌, ◌⊎◌, inl, inr, ◌<◌, ◌≤◌, ℕ, List, length, map, get_or, Some, None, refl, sym, ap, ◌∙◌, subst, arith}
 use Rattle.std.specs.Prelude.{slice_get, slice_set}
 use Rattle.std.specs.Option.{option_map}
 use Rattle.std.proofs.lemmas.List.{length-map}
-use Rattle.std.proofs.lemmas.Option.{slice_get-map}
+use Rattle.std.proofs.lemmas.Option.{slice_get-map, slice_get_cases}
 use Rattle.closure_model.proofs.Slots.{map_set_kept}
-use Rattle.texts.specs.Words.{words, are_passed_over}
-use Rattle.net_model.specs.Network.{Plan}
-use Rattle.execution_model.specs.Feeds.{Execution}
-use Rattle.multiplexed_commands.specs.Alone.{MemberState, Idle, SaysLineAlone, idle_said}
+use Rattle.multiplexed_commands.specs.Alone.{MemberState, SaysLineAlone}
 use Rattle.multiplexed_commands.specs.Merged.{Member, after_own, own_number}
 use Rattle.multiplexed_commands.specs.NamedLines.{named}
 use Rattle.multiplexed_commands.proofs.ProjectionLemmas.{set_here, set_elsewhere}
 use Rattle.event_phase.specs.EventRuns.{EventRun}
-use Rattle.event_phase.specs.EventPhase.{answer_capacity, executing_machine}
-use Rattle.plan_fleet.specs.Fleets.{AtPlan, ChangesOne}
-use Rattle.plan_fleet.specs.FleetPlans.{FleetPlan, IsFleetPlan}
-use Rattle.plan_fleet.specs.declared.states.State.{State}
-use Rattle.plan_fleet.specs.declared.states.State.TheVariants as state
-use Rattle.fleet_command.specs.FleetStands.{AnswersMember, ArePlaced, HaveCapacity, RunsAt, SlotSays, SaysLine, fleet_capacity, fleet_member_of, members_of, said_capacity, stands_at, stands_by, slot_stands, stands_of, stands_capacity}
+use Rattle.event_phase.specs.EventPhase.{executing_machine}
+use Rattle.plan_fleet.specs.Fleets.{ChangesOne}
+use Rattle.plan_fleet.specs.FleetPlans.{FleetPlan}
+use Rattle.fleet_command.specs.FleetStands.{AnswersMember, ArePlaced, HasCapacityAt, HaveCapacity, SlotSays, SaysLine, fleet_capacity, fleet_member_of, members_of, stands_at, slot_stands, stands_of, stands_capacity}
 use Rattle.fleet_command.specs.declared.entries.FleetEntry.{FleetEntry}
 use Rattle.fleet_command.specs.declared.entries.FleetSlot.{FleetSlot}
 use Rattle.fleet_command.specs.declared.entries.FleetSlot.TheVariants.{Opened}
 use Rattle.fleet_command.proofs.OwnLemmas.{says_capacity}
 use Rattle.fleet_command.proofs.StandsLemmas.{members_after, placed_stays, capacity_of_one, capacity_set, capacity_stays}
-use Rattle.fleet_command.proofs.ReportedLineLemmas.{at_here, runs_so}
 
--- ---- a plan that runs
+-- ---- a plan that was opened
 slot_here : (fleet : List FleetPlan) (place : ℕ) (plan : FleetPlan) → slice_get fleet place ≡ Some plan → slot_stands fleet (Opened place) ≡ stands_of plan
 slot_here fleet place plan here = ap stands_at here
 
-pub slot_running : (fleet after : List FleetPlan) (place number : ℕ) (line said : List ℕ) → ChangesOne fleet place (SaysLine number line said) after → SlotSays fleet (Opened place) number line said after
-slot_running fleet after place number line said one =
+pub slot_opened : (fleet after : List FleetPlan) (place number : ℕ) (line said : List ℕ) → ChangesOne fleet place (SaysLine number line said) after → SlotSays fleet (Opened place) number line said after
+slot_opened fleet after place number line said one =
     let there : slice_get after place ≡ Some one.new = ap (λ (f : List FleetPlan). slice_get f place) one.is ∙ set_here fleet place one.old one.new one.was in
     record {
       says =
@@ -41,33 +35,14 @@ slot_running fleet after place number line said one =
       others = λ other apart. ap (λ (f : List FleetPlan). slice_get f other) one.is ∙ set_elsewhere fleet place other one.new (λ same. apart (ap Opened (sym same)));
     }
 
-pub runs_at : (fleet : List FleetPlan) (place capacity : ℕ) (stands : State) → AtPlan fleet place (λ plan. stands ≡ plan.state) → stands ≡ state.Running → HaveCapacity fleet capacity → RunsAt fleet place capacity
-runs_at fleet place capacity stands (plan, here, is) runs spare_capacity = record { plan = plan; here = here; runs = sym is ∙ runs; spare_capacity = spare_capacity place plan here }
-
--- the capacity of its answer
-pub slot_size : (fleet : List FleetPlan) (place capacity size : ℕ) → RunsAt fleet place capacity → AtPlan fleet place IsFleetPlan → AtPlan fleet place (λ plan. size ≤ answer_capacity plan.net)
-    → size ≤ said_capacity (slot_stands fleet (Opened place))
-slot_size fleet place capacity size runs sound short =
-    let (execution, has, goes) = (at_here IsFleetPlan fleet place runs.plan sound runs.here).runs runs.runs in
-    let stands = slot_here fleet place runs.plan runs.here ∙ runs_so runs.plan execution runs.runs has in
-    subst (λ (s : MemberState EventRun). size ≤ said_capacity s) (sym stands) (at_here (λ plan. size ≤ answer_capacity plan.net) fleet place runs.plan short runs.here)
-
--- ---- one that does not
-not_running : (net : Plan) (stands : State) (execution : Option Execution) → (stands ≡ state.Running → ⊥) → stands_by net stands execution ≡ Idle
-not_running net state.Running execution never = absurd (never refl)
-not_running net state.NotControllable execution never = refl
-not_running net state.Complete execution never = refl
-not_running net state.Ended execution never = refl
-
-pub idle_at : (fleet : List FleetPlan) (place : ℕ) (stands : State) → AtPlan fleet place (λ plan. stands ≡ plan.state) → (stands ≡ state.Running → ⊥) → slot_stands fleet (Opened place) ≡ Idle
-idle_at fleet place stands (plan, here, is) never = slot_here fleet place plan here ∙ not_running plan.net plan.state plan.execution (λ runs. never (is ∙ runs))
-
-pub slot_idle : (fleet : List FleetPlan) (slot : FleetSlot) (number : ℕ) (line said : List ℕ) → slot_stands fleet slot ≡ Idle → said ≡ idle_said (are_passed_over (words line)) → SlotSays fleet slot number line said fleet
-slot_idle fleet slot number line said idle is = record {
-  says = subst (λ (s : MemberState EventRun). SaysLineAlone executing_machine s number line said s) (sym idle) (is, refl);
-  nets = refl;
-  others = λ place apart. refl;
-}
+-- there is capacity for its answer
+pub capacity_at : (fleet : List FleetPlan) (place capacity : ℕ) → place < length fleet → HaveCapacity fleet capacity → HasCapacityAt fleet place capacity
+capacity_at fleet place capacity within all = by (slice_get_cases fleet place).1
+  where
+    by : ((x : FleetPlan) × (place < length fleet) × (slice_get fleet place ≡ Some x) × (get_or fleet place x ≡ x)) ⊎ ((length fleet ≤ place) × (slice_get fleet place ≡ None))
+        → HasCapacityAt fleet place capacity
+    by (inl (plan, inside, here, got)) = (plan, here, all place plan here)
+    by (inr (past, none)) = absurd (omega (arith, within, past))
 
 -- ---- a plan by its name
 pub members_many : (fleet : List FleetPlan) (entries : List FleetEntry) → length (members_of fleet entries) ≡ length entries

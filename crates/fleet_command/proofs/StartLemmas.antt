@@ -21,8 +21,8 @@ use Rattle.multiplexed_commands.specs.NamedLines.{named}
 use Rattle.plan_fleet.specs.FleetPlans.{FleetPlan, IsRunningAtFirst, OpensTo}
 use Rattle.plan_fleet.specs.Fleets.{AreOpened}
 use Rattle.plan_fleet.specs.FleetStart.{nets_given}
-use Rattle.plan_fleet.specs.declared.states.State.{State}
-use Rattle.plan_fleet.specs.declared.states.State.TheVariants as state
+use Rattle.plan_fleet.specs.declared.plan_execution.PlanExecution.{PlanExecution}
+use Rattle.plan_fleet.specs.declared.plan_execution.PlanExecution.TheVariants.{NotControllable, Running, Complete, Ended}
 use Rattle.fleet_command.specs.PlanDivision.{BeginsAll, SlotBegins, fleet_entries_of, fleet_entry_of, HaveAtMost, nets_in, SaysStart}
 use Rattle.fleet_command.specs.FleetCommand.{BeginEach, BeginsFleet, BeginsPlan, BeginsRunning}
 use Rattle.fleet_command.specs.FleetStands.{ArePlaced, HaveCapacity, fleet_capacity, members_of, most_named, stands_at, stands_by, slot_stands, stands_of, stands_capacity}
@@ -122,12 +122,10 @@ begins_more fleet (one ∷ entries) put said entry (its, more, slot, all, rest) 
 abbrev OpenFrom : ℕ → List FleetPlan → List (List ℕ × Plan) → Type 0
 OpenFrom k fleet nets = (place : ℕ) (net : Plan) → slice_get (nets_given nets) place ≡ Some net → (member : FleetPlan) × (slice_get fleet (k + place) ≡ Some member) × OpensTo net member
 
-begins_running : (net : Plan) (member : FleetPlan) (said : List ℕ) (name : List ℕ) → member.net ≡ net → IsRunningAtFirst net member → SaysStart member member.state said
+begins_running : (net : Plan) (member : FleetPlan) (said : List ℕ) (name : List ℕ) → member.net ≡ net → IsRunningAtFirst net member → SaysStart member.execution said
     → BeginsRunning net (record { name = name; said = said; stands = stands_of member })
 begins_running net member said name is runs says =
-    let at_running : SaysStart member state.Running said = subst (λ (s : State). SaysStart member s said) runs.runs says in
-    let (execution, has, (due, first, put)) = at_running in
-    let one : execution ≡ started (setting_of (shown_form net) runs.table) = cc (sym has ∙ runs.execution) in
+    let (due, first, put) = subst (λ (e : PlanExecution). SaysStart e said) runs.runs says in
     record {
       event_run = event_run_of (shown_form net) (started (setting_of (shown_form net) runs.table));
       begins = record {
@@ -135,22 +133,22 @@ begins_running net member said name is runs says =
         order = runs.order;
         by_closure = runs.by_closure;
         due = due;
-        first = subst (λ (e : Execution). IsDueAnswer e due) one first;
+        first = first;
         put = put;
         goes = refl;
       };
-      stands = runs_so member (started (setting_of (shown_form net) runs.table)) runs.runs runs.execution
+      stands = runs_so member (started (setting_of (shown_form net) runs.table)) runs.runs
           ∙ ap (λ (n : Plan). Runs (event_run_of (shown_form n) (started (setting_of (shown_form net) runs.table)))) is;
     }
 
-begins_plan : (net : Plan) (member : FleetPlan) (said : List ℕ) (name : List ℕ) → OpensTo net member → SaysStart member member.state said → BeginsPlan (Network net) (record { name = name; said = said; stands = stands_of member })
+begins_plan : (net : Plan) (member : FleetPlan) (said : List ℕ) (name : List ℕ) → OpensTo net member → SaysStart member.execution said → BeginsPlan (Network net) (record { name = name; said = said; stands = stands_of member })
 begins_plan net member said name (is, inl runs) says = inl (runs.controllable, begins_running net member said name is runs says)
 begins_plan net member said name (is, inr refuted) says =
     inr (
       refuted.never,
       record {
-        said = subst (λ (s : State). SaysStart member s said) refuted.stands says;
-        stands = ap (λ (s : State). stands_by member.net s member.execution) refuted.stands;
+        said = subst (λ (e : PlanExecution). SaysStart e said) refuted.stands says;
+        stands = ap (λ (e : PlanExecution). stands_by member.net e) refuted.stands;
       },
     )
 
@@ -203,16 +201,14 @@ begins_fleet plans fleet put opened begins =
 pub have_capacity : (fleet : List FleetPlan) (most capacity : ℕ) → HaveAtMost most fleet → 64 * most + 256 ≤ capacity → HaveCapacity fleet capacity
 have_capacity fleet most capacity all enough place plan is = let few = all place plan is in omega (arith, few, enough)
 
-capacity_by : (fleet : List FleetPlan) (most : ℕ) (plan : FleetPlan) → length plan.net.points ≤ most → (stands : State) (execution : Option Execution)
-    → stands_capacity (stands_by plan.net stands execution) ≤ most_named * (64 * most + 256) + 1
-capacity_by fleet most plan few state.Running (Some execution) = omega (arith, few)
-capacity_by fleet most plan few state.Running None = omega arith
-capacity_by fleet most plan few state.NotControllable execution = omega arith
-capacity_by fleet most plan few state.Complete execution = omega arith
-capacity_by fleet most plan few state.Ended execution = omega arith
+capacity_by : (fleet : List FleetPlan) (most : ℕ) (plan : FleetPlan) → length plan.net.points ≤ most → (execution : PlanExecution) → stands_capacity (stands_by plan.net execution) ≤ most_named * (64 * most + 256) + 1
+capacity_by fleet most plan few (Running execution) = omega (arith, few)
+capacity_by fleet most plan few NotControllable = omega arith
+capacity_by fleet most plan few (Complete execution) = omega arith
+capacity_by fleet most plan few (Ended execution) = omega arith
 
 capacity_at : (fleet : List FleetPlan) (most : ℕ) (found : Option FleetPlan) → ((plan : FleetPlan) → found ≡ Some plan → length plan.net.points ≤ most) → stands_capacity (stands_at found) ≤ most_named * (64 * most + 256) + 1
-capacity_at fleet most (Some plan) few = capacity_by fleet most plan (few plan refl) plan.state plan.execution
+capacity_at fleet most (Some plan) few = capacity_by fleet most plan (few plan refl) plan.execution
 capacity_at fleet most None few = omega arith
 
 pub slot_capacity : (fleet : List FleetPlan) (most : ℕ) (slot : FleetSlot) → HaveAtMost most fleet → stands_capacity (slot_stands fleet slot) ≤ most_named * (64 * most + 256) + 1

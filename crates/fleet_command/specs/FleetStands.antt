@@ -1,14 +1,15 @@
 -- How the plans of a fleet stand, seen as commands side by side.
-use Rattle.std.specs.Prelude.{◌≡◌, ◌≢◌, ℕ, ◌+◌, ◌*◌, ◌<◌, ◌≤◌, max, List, [], ◌∷◌, length, map, Option, Some, None, slice_get, slice_set}
+use Rattle.std.specs.Prelude.{◌≡◌, ◌≢◌, ◌⊎◌, ℕ, ◌+◌, ◌*◌, ◌<◌, ◌≤◌, max, false, List, [], ◌∷◌, length, map, Option, Some, None, slice_get, slice_set}
 use Rattle.net_model.specs.Network.{Plan}
 use Rattle.net_model.specs.ShownForm.{shown_form}
 use Rattle.execution_model.specs.Feeds.{Execution}
 use Rattle.plan_fleet.specs.FleetPlans.{FleetPlan}
-use Rattle.plan_fleet.specs.declared.states.State.{State}
-use Rattle.plan_fleet.specs.declared.states.State.TheVariants as state
+use Rattle.plan_fleet.specs.Fleets.{AtPlan}
+use Rattle.plan_fleet.specs.declared.plan_execution.PlanExecution.{PlanExecution}
+use Rattle.plan_fleet.specs.declared.plan_execution.PlanExecution.TheVariants.{NotControllable, Running, Complete, Ended}
 use Rattle.event_stream.specs.EventText.{EventLine}
 use Rattle.command_engine.specs.declared.machines.Flow.{Flow}
-use Rattle.multiplexed_commands.specs.Alone.{MemberState, Runs, Idle, SaysLineAlone, stands_after}
+use Rattle.multiplexed_commands.specs.Alone.{MemberState, Runs, Idle, SaysLineAlone, idle_said, stands_after}
 use Rattle.multiplexed_commands.specs.Merged.{Member, after_own, own_number}
 use Rattle.multiplexed_commands.specs.NamedLines.{named}
 use Rattle.event_phase.specs.EventRuns.{EventRun, event_run_of}
@@ -17,17 +18,16 @@ use Rattle.fleet_command.specs.declared.entries.FleetSlot.{FleetSlot}
 use Rattle.fleet_command.specs.declared.entries.FleetSlot.TheVariants.{Opened, Refused}
 use Rattle.fleet_command.specs.declared.entries.FleetEntry.{FleetEntry}
 
--- how a plan stands by its state and its execution: it runs, by its shown form, or is idle
-abbrev pub stands_by : Plan → State → Option Execution → MemberState EventRun
-stands_by net state.Running (Some execution) = Runs (event_run_of (shown_form net) execution)
-stands_by net state.Running None = Idle
-stands_by net state.NotControllable execution = Idle
-stands_by net state.Complete execution = Idle
-stands_by net state.Ended execution = Idle
+-- how a plan stands by its execution: it runs, by its shown form, or is idle
+abbrev pub stands_by : Plan → PlanExecution → MemberState EventRun
+stands_by net (Running execution) = Runs (event_run_of (shown_form net) execution)
+stands_by net NotControllable = Idle
+stands_by net (Complete execution) = Idle
+stands_by net (Ended execution) = Idle
 
 -- how a plan of a fleet stands
 abbrev pub stands_of : FleetPlan → MemberState EventRun
-stands_of plan = stands_by plan.net plan.state plan.execution
+stands_of plan = stands_by plan.net plan.execution
 
 abbrev pub stands_at : Option FleetPlan → MemberState EventRun
 stands_at (Some plan) = stands_of plan
@@ -88,7 +88,7 @@ abbrev pub HaveCapacity : List FleetPlan → (capacity : ℕ) → Type 0
 HaveCapacity fleet capacity = (place : ℕ) (plan : FleetPlan) → slice_get fleet place ≡ Some plan → answer_capacity plan.net ≤ capacity
 
 -- ---- what a line of one plan changes
--- a plan says this to a line that states so much, and stands so after it; its network stays
+-- a plan that runs says this to a line that states so much, and stands so after it; its network stays
 pub record SaysReported (number : ℕ) (reported : EventLine) (said : List ℕ) (old new : FleetPlan) : Type 0 where
   pub net : new.net ≡ old.net
   pub execution : Execution
@@ -97,17 +97,24 @@ pub record SaysReported (number : ℕ) (reported : EventLine) (said : List ℕ) 
   pub answers : AnswersEvent (event_run_of (shown_form old.net) execution) number reported said flow
   pub stands : stands_of new ≡ stands_after flow
 
+-- one that does not run says that it is idle, and stays as it is
+pub record SaysIdle (said : List ℕ) (old new : FleetPlan) : Type 0 where
+  pub stands : stands_of old ≡ Idle
+  pub says : said ≡ idle_said false
+  pub same : new ≡ old
+
+-- either of them, to a line that is not passed over
+abbrev pub SaysStated : ℕ → EventLine → List ℕ → FleetPlan → FleetPlan → Type 0
+SaysStated number reported said old new = SaysReported number reported said old new ⊎ SaysIdle said old new
+
 -- a plan says this to a line of its own by this number, and stands so after it; its network stays
 pub record SaysLine (number : ℕ) (line said : List ℕ) (old new : FleetPlan) : Type 0 where
   pub net : new.net ≡ old.net
   pub says : SaysLineAlone executing_machine (stands_of old) number line said (stands_of new)
 
--- the plan of this place, which runs, has capacity for its answer in a buffer
-pub record RunsAt (fleet : List FleetPlan) (place capacity : ℕ) : Type 0 where
-  pub plan : FleetPlan
-  pub here : slice_get fleet place ≡ Some plan
-  pub runs : plan.state ≡ state.Running
-  pub spare_capacity : answer_capacity plan.net ≤ capacity
+-- the plan of this place has capacity for its answer in a buffer
+abbrev pub HasCapacityAt : List FleetPlan → ℕ → ℕ → Type 0
+HasCapacityAt fleet place capacity = AtPlan fleet place (λ plan. answer_capacity plan.net ≤ capacity)
 
 -- Of one that is kept so, this is said to a line of its own by this number; no other plan changes, and all networks stay.
 pub record SlotSays (fleet : List FleetPlan) (slot : FleetSlot) (number : ℕ) (line said : List ℕ) (after : List FleetPlan) : Type 0 where

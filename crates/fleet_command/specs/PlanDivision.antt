@@ -2,10 +2,9 @@
 use Rattle.std.specs.Prelude.{◌≡◌, ℕ, ◌+◌, ◌≤◌, List, [], ◌∷◌, ◌++◌, length, Some, slice_get}
 use Rattle.net_model.specs.Network.{Plan}
 use Rattle.texts.specs.PrintedLines.{printed_line}
-use Rattle.execution_model.specs.Feeds.{Execution}
 use Rattle.plan_fleet.specs.FleetPlans.{FleetPlan}
-use Rattle.plan_fleet.specs.declared.states.State.{State}
-use Rattle.plan_fleet.specs.declared.states.State.TheVariants as state
+use Rattle.plan_fleet.specs.declared.plan_execution.PlanExecution.{PlanExecution}
+use Rattle.plan_fleet.specs.declared.plan_execution.PlanExecution.TheVariants.{NotControllable, Running, Complete, Ended}
 use Rattle.common_answers.specs.VerdictLines.{refuted_line}
 use Rattle.event_phase.specs.ExecutionStart.{PutsStart}
 use Rattle.multiplexed_commands.specs.NamedLines.{named}
@@ -33,16 +32,16 @@ fleet_entries_of place ((name, Network net) ∷ plans) = fleet_entry_of name (Op
 fleet_entries_of place ((name, Refused why) ∷ plans) = fleet_entry_of name (SlotRefused why) ∷ fleet_entries_of place plans
 
 -- ---- what is put of one at `go`
--- by its state
-abbrev pub SaysStart : FleetPlan → State → List ℕ → Type 0
-SaysStart plan state.Running said = (execution : Execution) × (plan.execution ≡ Some execution) × PutsStart execution said
-SaysStart plan state.NotControllable said = said ≡ refuted_line
-SaysStart plan state.Complete said = said ≡ refuted_line
-SaysStart plan state.Ended said = said ≡ refuted_line
+-- by its execution
+abbrev pub SaysStart : PlanExecution → List ℕ → Type 0
+SaysStart (Running execution) said = PutsStart execution said
+SaysStart NotControllable said = said ≡ refuted_line
+SaysStart (Complete execution) said = said ≡ refuted_line
+SaysStart (Ended execution) said = said ≡ refuted_line
 
 -- one that is kept so
 abbrev pub SlotBegins : List FleetPlan → FleetSlot → List ℕ → Type 0
-SlotBegins fleet (Opened place) said = (plan : FleetPlan) × (slice_get fleet place ≡ Some plan) × SaysStart plan plan.state said
+SlotBegins fleet (Opened place) said = (plan : FleetPlan) × (slice_get fleet place ≡ Some plan) × SaysStart plan.execution said
 SlotBegins fleet (SlotRefused why) said = said ≡ printed_line (refusal_words why)
 
 -- all of them, in their order

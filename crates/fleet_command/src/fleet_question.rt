@@ -185,8 +185,6 @@ fn say_start(said: &mut Answer, fleet: &Fleet, slot: FleetSlot)
     match slot {
         FleetSlot::Refused(why) => say_refusal(said, why),
         FleetSlot::Opened(place) => {
-            // The proof reads here that the plan is sound: if it runs it has an execution.
-            let _ = fleet.network(place);
             if fleet.state(place) == State::Running {
                 said.put_line(&[Word::Text("controllable")]);
                 put_due(said, fleet.next_due(place));

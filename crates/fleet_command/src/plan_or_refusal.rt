@@ -39,7 +39,7 @@ impl Test<Declarations, Fault> for KeepRefusal {
         match value.build(alloc)? {
             Ok(net) => Ok(Ok(PlanOrRefusal::Network(net))),
             Err(Fault::Part(_, why)) => Ok(Ok(PlanOrRefusal::Refused(why))),
-            Err(_) => unreachable!(),
+            Err(fault) => Ok(Err(fault)),
         }
     }
 }

@@ -3,6 +3,7 @@ use Rattle.std.specs.Prelude.{◌≡◌, ℕ, ◌<◌, List, length, map, Result
 use Rattle.std.specs.List.{All, range_with_len}
 use Rattle.net_model.specs.Network.{Plan}
 use Rattle.net_model.specs.ShownForm.{shown_form}
+use Rattle.strategy_model.specs.Control.{IsControllable}
 use Rattle.canonical_closure.specs.CanonicalClosure.{canonical_closure}
 use Rattle.execution_model.specs.Feeds.{Execution, started}
 use Rattle.execution_model.specs.Laws.{setting_of}
@@ -10,6 +11,8 @@ use Rattle.verdicts.specs.Decisions.{IsDecidedBy, IsOrderedForwardTable}
 use Rattle.plan_fleet.specs.FleetPlans.{FleetPlan, OpensTo}
 use Rattle.plan_fleet.specs.declared.fleet_start.Decided.{Decided}
 use Rattle.plan_fleet.specs.declared.fleet_start.Job.{Job}
+use Rattle.plan_fleet.specs.declared.plan_execution.PlanExecution.{PlanExecution}
+use Rattle.plan_fleet.specs.declared.plan_execution.PlanExecution.TheVariants.{NotControllable, Running, Complete, Ended}
 
 -- the networks of jobs, and those that were given under names
 abbrev pub nets_of : List Job → List Plan
@@ -30,6 +33,13 @@ pub record IsDecided (decided : Decided) : Type 0 where
 -- an execution of a network is started by its closure
 abbrev pub StartsBy : Plan → Execution → Type 0
 StartsBy net execution = execution ≡ started (setting_of net (canonical_closure net))
+
+-- it is, exactly if the network is controllable
+abbrev pub StartsOrNot : Plan → PlanExecution → Type 0
+StartsOrNot net NotControllable = ¬ IsControllable net
+StartsOrNot net (Running execution) = IsControllable net × StartsBy net execution
+StartsOrNot net (Complete execution) = ⊥
+StartsOrNot net (Ended execution) = ⊥
 
 -- this network was decided
 abbrev pub DecidesTo : Plan → Decided → Type 0

@@ -2,6 +2,7 @@
 use Rattle.std.specs.Prelude.{◌≡◌, ℕ, List, length, Some, IsSome, slice_get, slice_set}
 use Rattle.net_model.specs.Network.{Plan}
 use Rattle.plan_fleet.specs.FleetPlans.{FleetPlan, OpensTo}
+use Rattle.plan_fleet.specs.PlanExecutions.{execution_of}
 
 -- the networks were opened in their order, each as it is, whatever the others are
 pub record AreOpened (nets : List Plan) (fleet : List FleetPlan) : Type 0 where
@@ -24,4 +25,4 @@ AtPlan fleet plan Is = (member : FleetPlan) × (slice_get fleet plan ≡ Some me
 
 -- the plan of this number was started: it has an execution
 abbrev pub IsStarted : List FleetPlan → ℕ → Type 0
-IsStarted fleet plan = AtPlan fleet plan (λ member. IsSome member.execution)
+IsStarted fleet plan = AtPlan fleet plan (λ member. IsSome (execution_of member.execution))

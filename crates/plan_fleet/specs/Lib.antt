@@ -1,4 +1,5 @@
 pub mod Limits
+pub mod PlanExecutions
 pub mod FleetPlans
 pub mod Fleets
 pub mod FleetStart

@@ -7,6 +7,7 @@ ghost use Rattle.net_model.specs.Network.{IsPoint};
 ghost use Rattle.execution_model.specs.Feeds.{Execution, IsDueAnswer};
 ghost use Rattle.plan_fleet.specs.FleetPlans.{FleetPlan, FeedsPlan, FinishesPlan, EndsPlan};
 ghost use Rattle.plan_fleet.specs.FleetPlans.{IsFleetPlan};
+ghost use Rattle.plan_fleet.specs.PlanExecutions.{execution_of, state_of};
 ghost use Rattle.plan_fleet.specs.Fleets.{AreOpened, AtPlan, ChangesOne, IsStarted};
 ghost use Rattle.plan_fleet.specs.Limits.{most_plans};
 ghost use Rattle.plan_fleet.specs.FleetStart.{nets_given};
@@ -21,8 +22,8 @@ use std::alloc::{AllocError, Global};
 use std::marker::Model;
 use std::thread::Threads;
 
-/// The plans of a fleet, each with its network, its execution if it is controllable, and how it
-/// stands. Contracts see it as their list.
+/// The plans of a fleet, each with its network and how far its execution is. Contracts see it as
+/// their list.
 #[derive(Drop)]
 pub struct Fleet {
     pub(crate) members: Vec<FleetPlan>,
@@ -63,9 +64,10 @@ impl Fleet {
     /// Plans are named by their places, counted from 0.
     pub fn state(&self, plan: u32) -> State
         requires { plan < length self.now }
-        ensures { AtPlan self.now plan (λ member. result ≡ member.state) }
+        ensures { AtPlan self.now plan (λ member. result ≡ state_of member.execution) }
     {
-        self.members[plan as usize].state()
+        let member = &self.members[plan as usize];
+        member.execution.state()
     }
 
     /// Whether a plan was started: exactly those that are controllable were, whatever happened to
@@ -74,7 +76,8 @@ impl Fleet {
         requires { plan < length self.now }
         ensures { IsTrue result ↔ IsStarted self.now plan }
     {
-        self.members[plan as usize].is_started()
+        let member = &self.members[plan as usize];
+        member.execution.executor().is_some()
     }
 
     /// Feeds a running plan a moment, with the points that complete at it, as `Executor::feed`; a
@@ -117,7 +120,7 @@ impl Fleet {
         requires plan { plan < length self.now }
         requires started { IsStarted self.now plan }
         ensures value { AtPlan self.now plan (λ member. (execution : Execution)
-            → member.execution ≡ Some execution → result.now ≡ execution.acts) }
+            → execution_of member.execution ≡ Some execution → result.now ≡ execution.acts) }
         ensures few { AtPlan self.now plan
             (λ member. length result.now ≤ length member.net.points) }
     {
@@ -129,7 +132,7 @@ impl Fleet {
         requires plan { plan < length self.now }
         requires started { IsStarted self.now plan }
         ensures { AtPlan self.now plan (λ member. (execution : Execution)
-            → member.execution ≡ Some execution → IsDueAnswer execution result) }
+            → execution_of member.execution ≡ Some execution → IsDueAnswer execution result) }
     {
         self.members[plan as usize].next_due()
     }

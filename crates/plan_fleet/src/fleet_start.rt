@@ -3,13 +3,14 @@
 ghost use Rattle.std.specs.Prelude.{◌≡◌, ◌≤◌, length, map, IfOk};
 ghost use Rattle.std.specs.List.{AllZip};
 ghost use Rattle.verdicts.specs.Decisions.{IsDecidedBy, IsOrderedForwardTable};
-ghost use Rattle.plan_fleet.specs.FleetPlans.{OpensTo, state_at_first};
+ghost use Rattle.plan_fleet.specs.FleetPlans.{OpensTo};
 ghost use Rattle.plan_fleet.specs.Limits.{most_plans};
 ghost use Rattle.plan_fleet.specs.FleetStart.{AllDecided, AreNumbered, DecidesEach, DecidesTo};
-ghost use Rattle.plan_fleet.specs.FleetStart.{IsDecided, OpensDecided, StartsBy, nets_given, nets_of};
+ghost use Rattle.plan_fleet.specs.FleetStart.{IsDecided, OpensDecided, StartsBy, StartsOrNot};
+ghost use Rattle.plan_fleet.specs.FleetStart.{nets_given, nets_of};
 
 use crate::fleet_plan::FleetPlan;
-use crate::states::State;
+use crate::plan_execution::PlanExecution;
 use canonical_closure::laws::law_controllable_have_canonical_closures;
 use dispatch_net::laws::law_slim_stays_slim;
 use forward_closure::ForwardClosed;
@@ -114,38 +115,23 @@ fn opened(alloc: Global, decided: Decided) -> Result<FleetPlan, AllocError>
     law_shown_form_is_instant();
     law_controllable_have_canonical_closures();
     decided.net.sound();
-    let executor = started(alloc, &decided.shown, &decided.closed)?;
-    let state = state_at_first(&executor);
+    let execution = started(alloc, &decided.shown, &decided.closed)?;
     let Decided { net, .. } = decided;
-    Ok(FleetPlan {
-        net,
-        executor,
-        state,
-    })
+    Ok(FleetPlan { net, execution })
 }
 
-/// How a plan stands at first: it runs if it has an executor.
-fn state_at_first(executor: &Option<ForwardExecutor>) -> State
-    ensures { result ≡ state_at_first executor.now }
-{
-    match executor {
-        Some(_) => State::Running,
-        None => State::NotControllable,
-    }
-}
-
-/// The execution of a network without a delay, exactly if it is controllable.
+/// The execution of a network without a delay, which is started exactly if it is controllable.
 fn started(
     alloc: Global,
     net: &Network,
     closed: &Option<ForwardClosed>,
-) -> Result<Option<ForwardExecutor>, AllocError>
+) -> Result<PlanExecution, AllocError>
     requires { IsDecidedBy IsOrderedForwardTable net.now closed.now }
-    ensures { IfOk result (IsDecidedBy StartsBy net.now) }
+    ensures { IfOk result (StartsOrNot net.now) }
 {
     match closed {
-        None => Ok(None),
-        Some(closed) => Ok(Some(start(alloc, net, closed)?)),
+        None => Ok(PlanExecution::NotControllable),
+        Some(closed) => Ok(PlanExecution::Running(start(alloc, net, closed)?)),
     }
 }
 

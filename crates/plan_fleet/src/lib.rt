@@ -5,6 +5,7 @@
 mod fleet;
 mod fleet_plan;
 mod fleet_start;
+mod plan_execution;
 mod states;
 
 pub use fleet::Fleet;
