@@ -1,7 +1,5 @@
 -- A point that comes, and is executed.
-use Rattle.std.proofs.Common.{◌≡◌, ℕ, ◌<◌, List, [], ◌∷◌, ◌++◌, length, Option, Some, ap, sym, subst, ◌∙◌, arith, append-nil}
-use Rattle.std.specs.Prelude.{IfSome}
-use Rattle.std.proofs.lemmas.List.Elements.{All-set}
+use Rattle.std.proofs.Common.{◌≡◌, ℕ, ◌<◌, List, [], ◌∷◌, ◌++◌, length, ap, sym, subst, ◌∙◌, arith, append-nil}
 use Rattle.net_model.specs.declared.ids.PointId.{PointId}
 use Rattle.net_model.specs.Moments.{Moments}
 use Rattle.execution_model.specs.Feeds.{completed_at}
@@ -10,7 +8,6 @@ use Rattle.execution_model.specs.declared.feed_answers.Act.{Act}
 use Rattle.execution_model.proofs.MomentLemmas.{length-completed_at}
 use Rattle.live_executor.specs.ExpectedPoints.{AreLatest}
 use Rattle.live_executor.specs.ExecutionStates.{ExecutionSoFar, StandsAt, MayComeAt, Comes, Executes}
-use Rattle.live_executor.specs.Limits.{AreBefore, end_of_time}
 use Rattle.live_executor.specs.Sound.{KeptNetwork, made_setting}
 use Rattle.live_executor.specs.Trace.{KeepsTrace}
 use Rattle.live_executor.specs.WokenPoints.{IsAwake}
@@ -34,7 +31,6 @@ module _ (network : KeptNetwork) (t : ℕ) (point : PointId) (old : ExecutionSoF
       awake = awake;
       expected = expected;
       count = ap (λ (moments : Moments). length moments) moments_are ∙ (as_long ∙ stands.count);
-      early = subst (AreBefore end_of_time) (sym moments_are) (All-set (λ (m : Option ℕ). IfSome m (λ a. a < end_of_time)) old.moments point.0 (Some t) may.soon stands.early);
       few = (let same = ap (λ (moments : Moments). length moments) moments_are in omega (arith, same, as_long, stands.few));
       paced = subst (ArePaced (made_setting network)) (sym moments_are) may.paced;
     };

@@ -17,7 +17,7 @@ use Rattle.execution_model.proofs.PacedLemmas.{started_paced}
 use Rattle.live_executor.specs.ExpectedPoints.{AreLatest}
 use Rattle.live_executor.specs.ExecutionStates.{ExecutionSoFar, StandsAt, IsFirstMoment}
 use Rattle.live_executor.specs.Due.{holds_from}
-use Rattle.live_executor.specs.Limits.{AreBefore, end_of_time}
+use Rattle.live_executor.specs.Limits.{AreBefore}
 use Rattle.live_executor.specs.Sound.{KeptNetwork, IsSoundSetting, made_setting, ExecutesTheSame}
 use Rattle.live_executor.specs.WokenPoints.{IsAwake}
 use Rattle.live_executor.proofs.FirstDueLemmas.{holds_not_yet, known_none_before}
@@ -57,7 +57,6 @@ none_stands network same sound whole state none awake expected = record {
   awake = awake;
   expected = expected;
   count = awake.moments_count ∙ whole;
-  early = none_before end_of_time (length network.setting.dispatch) state.moments none;
   few = omega (arith, awake.moments_count, sound.few);
   paced = subst (ArePaced (made_setting network)) (sym (none ∙ ap (λ (n : ℕ). replicate n no_moment) whole ∙ none_come (made_setting network))) (started_paced (made_setting network) same.rank same.ranked);
 }

@@ -113,7 +113,6 @@ stands_later network now later state stands from none = record {
   awake = awake_later network.setting now later state.moments state.counts state.due stands.awake from none;
   expected = stands.expected;
   count = stands.count;
-  early = stands.early;
   few = stands.few;
   paced = stands.paced;
 }
@@ -121,7 +120,7 @@ stands_later network now later state stands from none = record {
 -- whatever acts and points are kept
 pub stands_with : (network : KeptNetwork) (now : ℕ) (state : ExecutionSoFar) (acts : List Act) (came : List PointId) → StandsAt network now state → StandsAt network now (record state { acts = acts; came = came })
 stands_with network now state acts came stands =
-    record { awake = stands.awake; expected = stands.expected; count = stands.count; early = stands.early; few = stands.few; paced = stands.paced }
+    record { awake = stands.awake; expected = stands.expected; count = stands.count; few = stands.few; paced = stands.paced }
 
 pub goes_nowhere : (network : KeptNetwork) (t : ℕ) (state : ExecutionSoFar) → StandsAt network t state → Reaches network t state.moments [] state state
 goes_nowhere network t state stands = record { moments_are = refl; acts_are = sym (append-nil state.acts); stands = stands; trace = λ before since. since }

@@ -1,6 +1,6 @@
 -- What is kept of an execution when a point comes, when an act is made, and when all is taken back.
-use Rattle.std.proofs.Common.{◌≡◌, ℕ, ◌+◌, ◌<◌, ◌≤◌, List, [], ◌∷◌, ◌++◌, length, take, drop, Some, None, ap, sym, subst, ◌∙◌, arith}
-use Rattle.std.proofs.lemmas.List.{length-append, length-drop, length-take-le, take-append-le, take_all}
+use Rattle.std.proofs.Common.{◌≡◌, ℕ, ◌+◌, ◌<◌, ◌≤◌, List, [], ◌∷◌, ◌++◌, length, Some, None, ap, sym, subst, ◌∙◌, arith}
+use Rattle.std.proofs.lemmas.List.{length-append}
 use Rattle.std.specs.List.{All}
 use Rattle.net_model.specs.declared.ids.PointId.{PointId}
 use Rattle.net_model.specs.Moments.{Moments, moment_of}
@@ -11,20 +11,6 @@ use Rattle.live_executor.specs.Sound.{KeptNetwork}
 use Rattle.live_executor.proofs.FirstDueLemmas.{left_completed}
 use Rattle.live_executor.proofs.SettleLemmas.{left_cons}
 use Rattle.live_executor.proofs.UndoLemmas.{inside_more}
-
--- ---- moments written over others
-pub written_long : (n : ℕ) (new old : Moments) → length old ≡ n → length (take n (new ++ drop (length new) old)) ≡ n
-written_long n new old count = length-take-le n (new ++ drop (length new) old) (omega (arith, length-append new (drop (length new) old), length-drop (length new) old, count))
-
-pub written_whole : (n : ℕ) (new old : Moments) → length new ≡ n → take n (new ++ drop (length new) old) ≡ new
-written_whole n new old long = take-append-le n new (drop (length new) old) (omega (arith, long)) ∙ take_all n new (omega (arith, long))
-
-pub written_completed : (places : ℕ) (before seen new : Moments) (t : ℕ) (point : PointId) → places ≡ length before → seen ≡ before → new ≡ completed_at seen t point
-    → take places (new ++ drop (length new) before) ≡ completed_at before t point
-written_completed places before seen new t point count same is =
-    let moved : new ≡ completed_at before t point = is ∙ ap (λ (moments : Moments). completed_at moments t point) same in
-    let long : length new ≡ places = ap (λ (moments : Moments). length moments) moved ∙ (length-completed_at before t point ∙ sym count) in
-    written_whole places new before long ∙ moved
 
 -- ---- the state as it is kept
 pub stands_inside : (network : KeptNetwork) (t : ℕ) (inside state : ExecutionSoFar) → inside ≡ state → StandsAt network t state → StandsAt network t inside

@@ -102,7 +102,6 @@ goes_at_end network old now last goes out =
             (λ point inside. some_of (moment_of now.moments point) (out.come point.0 None inside));
         expected = stands.expected;
         count = stands.count;
-        early = stands.early;
         few = stands.few;
         paced = stands.paced;
       };

@@ -10,7 +10,7 @@ use Rattle.execution_model.specs.Paced.{ArePaced, IsMadeOneByOne}
 use Rattle.execution_model.specs.declared.feed_answers.Act.{Act}
 use Rattle.live_executor.specs.ExpectedPoints.{AreLatest}
 use Rattle.live_executor.specs.Due.{holds_from}
-use Rattle.live_executor.specs.Limits.{AreBefore, end_of_time}
+use Rattle.live_executor.specs.Limits.{end_of_time}
 use Rattle.live_executor.specs.Sound.{KeptNetwork, made_setting}
 use Rattle.live_executor.specs.Trace.{KeepsTrace}
 use Rattle.live_executor.specs.WokenPoints.{IsAwake}
@@ -66,13 +66,11 @@ pub record IsKeptState (moments : Moments) (counts : List ℕ) (acts : List Act)
   pub points_fit : HasCapacityLeft moments came places_of_points
   pub inside : All (λ (point : PointId). point.0 < length moments) came
 
--- the state is right when a moment comes: the open conditions and the expected points, by what is kept of the network; no moment is too late, and the moments
--- keep to what was made
+-- the state is right when a moment comes: the open conditions and the expected points, by what is kept of the network; and the moments keep to what was made
 pub record StandsAt (network : KeptNetwork) (now : ℕ) (state : ExecutionSoFar) : Type 0 where
   pub awake : IsAwake network.setting now state.moments state.counts state.due
   pub expected : AreLatest network.setting state.moments state.latest
   pub count : length state.moments ≡ length network.made
-  pub early : AreBefore end_of_time state.moments
   pub few : length state.moments ≤ most_points
   pub paced : ArePaced (made_setting network) state.moments
 

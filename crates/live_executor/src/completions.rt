@@ -1,12 +1,13 @@
 //! The completions of a feed, and why it is refused.
 
-ghost use Rattle.std.specs.Prelude.{◌≡◌, ◌+◌, ◌<◌, ◌≤◌, find, length, unsigned_abs};
+ghost use Rattle.std.specs.Prelude.{◌≡◌, ◌+◌, ◌<◌, ◌≤◌, IfSome, find, length};
+ghost use Rattle.std.specs.Prelude.{unsigned_abs};
 ghost use Rattle.net_model.specs.Limits.{most_size};
 ghost use Rattle.execution_model.specs.Execution.{points_of};
 ghost use Rattle.execution_model.specs.Feeds.{refusal_of_duration, refusal_of_completion};
 ghost use Rattle.execution_model.specs.Feeds.{refusal_of, activated_before, is_open};
 ghost use Rattle.live_executor.specs.ExecutionStates.{StandsAt};
-ghost use Rattle.live_executor.specs.Limits.{AreBefore, end_of_time};
+ghost use Rattle.live_executor.specs.Limits.{end_of_time};
 ghost use Rattle.live_executor.specs.Sound.{IsLinkWithin, made_setting};
 ghost use Rattle.live_executor.specs.FeedParts.{MayBeListed, Completes};
 
@@ -37,7 +38,8 @@ impl ExecutionState {
     /// The moment of the activation of a link, if it was before a moment.
     fn activated_before(&self, moment: u64, link: &Link) -> Option<u64>
         requires { link.now.from.0 < length self.now.moments }
-        ensures { result ≡ activated_before self.now.moments moment link.now }
+        ensures moment { result ≡ activated_before self.now.moments moment link.now }
+        ensures early { IfSome result (λ activated. activated < end_of_time) }
     {
         self.moment_of(link.from)
             .filter(|activated| *activated < moment)
@@ -47,7 +49,6 @@ impl ExecutionState {
     fn refusal_over(&self, moment: u64, point: PointId, link: &Link) -> Option<Why>
         requires point { point.0 < length self.now.moments }
         requires link { IsLinkWithin (length self.now.moments) link.now }
-        requires early { AreBefore end_of_time self.now.moments }
         ensures { result ≡ refusal_of_completion self.now.moments moment point link.now }
     {
         if let Some(completed) = self.moment_of(point) {

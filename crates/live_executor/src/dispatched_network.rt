@@ -10,12 +10,12 @@ ghost use Rattle.execution_model.specs.Execution.{is_due, link_to};
 ghost use Rattle.execution_model.specs.Feeds.{latest_of};
 ghost use Rattle.live_executor.specs.ExpectedPoints.{AreActivatedBy};
 ghost use Rattle.live_executor.specs.Due.{PassesFrom};
-ghost use Rattle.live_executor.specs.Limits.{AreBefore, end_of_time};
 ghost use Rattle.live_executor.specs.Sound.{IsDispatchOf, IsLinkWithin, IsSoundSetting};
 ghost use Rattle.live_executor.specs.Sound.{ComesToItsEnd, ExecutesTheSame, made_setting};
 
 use crate::activations::activations;
 use crate::condition_moments::{bounds_met, waits_met};
+use crate::moments::Moments;
 use crate::point_lists::PointLists;
 use crate::wakes::Wakes;
 use dispatch_net::Dispatch;
@@ -145,32 +145,30 @@ impl Dispatched {
     }
 
     /// The latest moment of a contingent point that has not completed, if its link is active.
-    pub(crate) fn latest_of(&self, moments: &[Option<u64>], point: PointId) -> Option<u64>
+    pub(crate) fn latest_of(&self, moments: &Moments, point: PointId) -> Option<u64>
         requires point { point.0 < length self.now.setting.dispatch }
         requires count { length moments.now ≡ length self.now.setting.dispatch }
-        requires early { AreBefore end_of_time moments.now }
         ensures { result ≡ latest_of self.now.setting moments.now point }
     {
-        if moments[point.0 as usize].is_some() {
+        if moments.of(point).is_some() {
             return None;
         }
         let link = self.link_to(point)?;
-        let activated = moments[link.from.0 as usize]?;
+        let activated = moments.of(link.from)?;
         Some(activated + link.high.unsigned_abs())
     }
 
     /// The moment from which on a point is due, or `None` if it has come or is contingent, or if
     /// that moment isn't fixed yet.
-    pub(crate) fn due_from(&self, moments: &[Option<u64>], point: PointId) -> Option<u64>
+    pub(crate) fn due_from(&self, moments: &Moments, point: PointId) -> Option<u64>
         requires point { point.0 < length self.now.setting.dispatch }
         requires count { length moments.now ≡ length self.now.setting.dispatch }
-        requires early { AreBefore end_of_time moments.now }
         ensures { PassesFrom (λ t. is_due self.now.setting moments.now t point) result }
     {
         if self.link_to(point).is_some() {
             return None;
         }
-        if moments[point.0 as usize].is_some() {
+        if moments.of(point).is_some() {
             return None;
         }
         let bounds = bounds_met(moments, self.dispatch.lower_bounds(point))?;

@@ -2,6 +2,7 @@
 //! time that runs from due moment to due moment.
 
 ghost use Rattle.std.specs.Prelude.{◌≡◌, ◌<◌, ◌≤◌, None, length, replicate, find, IfOk};
+ghost use Rattle.std.specs.Prelude.{IfSome};
 ghost use Rattle.std.specs.Vec.{vec_capacity};
 ghost use Rattle.net_model.specs.declared.ids.PointId.{PointId};
 ghost use Rattle.net_model.specs.Moments.{Moments, moment_of};
@@ -18,6 +19,7 @@ ghost use Rattle.live_executor.specs.Trace.{HaveComeSince};
 
 use crate::dispatched_network::Dispatched;
 use crate::expected_points::Expected;
+use crate::moments::Moments;
 use crate::open_conditions::OpenConditions;
 use crate::undo::take_back;
 use execution_model::{Act, Why};
@@ -35,7 +37,7 @@ const END_OF_TIME: u64 = 10_000_000_000_000;
 /// stands.
 #[derive(Drop)]
 pub(crate) struct ExecutionState {
-    moments: Vec<Option<u64>>,
+    moments: Moments,
     open_conditions: OpenConditions,
     expected: Expected,
     acts: Vec<Act>,
@@ -49,7 +51,7 @@ impl Model for ExecutionState {
     ghost Value = { ExecutionSoFar };
 
     ghost view = { λ kept. record {
-      moments = kept.moments.items;
+      moments = kept.moments;
       counts = kept.open_conditions.counts.items;
       due = kept.open_conditions.due;
       latest = kept.expected.latest;
@@ -57,7 +59,7 @@ impl Model for ExecutionState {
       came = kept.came.items;
     } };
 
-    ghost invariant = { λ kept. IsKeptState kept.moments.items kept.open_conditions.counts.items
+    ghost invariant = { λ kept. IsKeptState kept.moments kept.open_conditions.counts.items
         kept.acts.items (vec_capacity kept.acts) kept.came.items (vec_capacity kept.came) };
 }
 
@@ -72,12 +74,12 @@ impl ExecutionState {
             (length dispatched.now.made) None) }
         ensures stands { IfOk result (λ state. StandsAt dispatched.now 0 state) }
     {
-        let points = dispatched.points() as usize;
-        let moments = vec![in alloc; None; points]?;
-        let open_conditions = OpenConditions::initial(alloc, dispatched, moments.as_slice())?;
+        let points = dispatched.points();
+        let moments = Moments::none(alloc, points)?;
+        let open_conditions = OpenConditions::initial(alloc, dispatched, &moments)?;
         let expected = Expected::initial(alloc, dispatched)?;
-        let acts = Vec::with_capacity(alloc, points)?;
-        let came = Vec::with_capacity(alloc, points)?;
+        let acts = Vec::with_capacity(alloc, points as usize)?;
+        let came = Vec::with_capacity(alloc, points as usize)?;
         dispatched.executes_the_same();
         Ok(ExecutionState {
             moments,
@@ -91,9 +93,10 @@ impl ExecutionState {
     /// The moment of a point, or `None` if it has not come.
     pub(crate) fn moment_of(&self, point: PointId) -> Option<u64>
         requires { point.0 < length self.now.moments }
-        ensures { result ≡ moment_of self.now.moments point }
+        ensures moment { result ≡ moment_of self.now.moments point }
+        ensures early { IfSome result (λ moment. moment < end_of_time) }
     {
-        self.moments[point.0 as usize]
+        self.moments.of(point)
     }
 
     /// Clears the lists of the acts that were made and the points that came.
@@ -110,7 +113,7 @@ impl ExecutionState {
         ensures { (before : Moments) → HaveComeSince before self.old.came self.old.moments
             → self.new.moments ≡ before }
     {
-        take_back(self.moments.as_mut_slice(), self.came.as_slice());
+        take_back(&mut self.moments, self.came.as_slice());
         self.acts.clear();
         self.came.clear();
     }
@@ -134,9 +137,8 @@ impl ExecutionState {
         ensures { Comes dispatched.now t point self.old self.new }
     {
         self.open_conditions
-            .come(dispatched, self.moments.as_mut_slice(), point, t);
-        self.expected
-            .come(dispatched, self.moments.as_slice(), point);
+            .come(dispatched, &mut self.moments, point, t);
+        self.expected.come(dispatched, &self.moments, point);
         self.came.push_reserved(point);
     }
 
@@ -224,7 +226,7 @@ impl ExecutionState {
         ensures { result ≡ first_overdue (made_setting dispatched.now) self.now.moments moment }
     {
         self.expected
-            .first_overdue(dispatched, self.moments.as_slice(), moment)
+            .first_overdue(dispatched, &self.moments, moment)
     }
 
     /// The moment of the last act, or another if there is none.

@@ -5,10 +5,10 @@ ghost use Rattle.net_model.specs.declared.ids.PointId.{PointId};
 ghost use Rattle.execution_model.specs.Execution.{has_come};
 ghost use Rattle.execution_model.specs.Feeds.{first_overdue};
 ghost use Rattle.live_executor.specs.ExpectedPoints.{AreLatest, IsLatestOrKept};
-ghost use Rattle.live_executor.specs.Limits.{AreBefore, end_of_time};
 ghost use Rattle.live_executor.specs.Sound.{made_setting};
 
 use crate::dispatched_network::Dispatched;
+use crate::moments::Moments;
 use execution_model::Why;
 use net_model::PointId;
 use std::alloc::{AllocError, Global};
@@ -33,12 +33,11 @@ impl Expected {
     }
 
     /// A point has come: it is no longer expected, and those that it activates are from now on.
-    pub(crate) fn come(&mut self, dispatched: &Dispatched, moments: &[Option<u64>], point: PointId)
+    pub(crate) fn come(&mut self, dispatched: &Dispatched, moments: &Moments, point: PointId)
         requires point { point.0 < length dispatched.now.setting.dispatch }
         requires moments { length moments.now ≡ length dispatched.now.setting.dispatch }
         requires count { length self.old.latest ≡ length dispatched.now.setting.dispatch }
         requires come { has_come moments.now point ≡ true }
-        requires early { AreBefore end_of_time moments.now }
         ensures each { (other : PointId)
             → IsLatestOrKept dispatched.now.setting moments.now point self.old.latest
             self.new.latest other }
@@ -56,12 +55,11 @@ impl Expected {
     pub(crate) fn first_overdue(
         &self,
         dispatched: &Dispatched,
-        moments: &[Option<u64>],
+        moments: &Moments,
         moment: u64,
     ) -> Option<Why>
         requires latest { AreLatest dispatched.now.setting moments.now self.now.latest }
         requires count { length moments.now ≡ length dispatched.now.setting.dispatch }
-        requires early { AreBefore end_of_time moments.now }
         ensures { result ≡ first_overdue (made_setting dispatched.now) moments.now moment }
     {
         // The proof reads here how many points there are.
@@ -76,9 +74,8 @@ impl Expected {
 
 /// The lowest point that should have completed by a moment, if there is one, as a refusal: of all
 /// points.
-fn lowest_overdue(dispatched: &Dispatched, moments: &[Option<u64>], moment: u64) -> Option<Why>
-    requires count { length moments.now ≡ length dispatched.now.setting.dispatch }
-    requires early { AreBefore end_of_time moments.now }
+fn lowest_overdue(dispatched: &Dispatched, moments: &Moments, moment: u64) -> Option<Why>
+    requires { length moments.now ≡ length dispatched.now.setting.dispatch }
     ensures { result ≡ first_overdue (made_setting dispatched.now) moments.now moment }
 {
     for number in 0..dispatched.points() {

@@ -17,6 +17,7 @@ mod execution_state;
 mod executor;
 mod expected_points;
 mod feed;
+mod moments;
 mod open_conditions;
 mod point_lists;
 mod undo;

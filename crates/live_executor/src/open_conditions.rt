@@ -9,11 +9,12 @@ ghost use Rattle.net_model.specs.Moments.{moment_of};
 ghost use Rattle.execution_model.specs.Execution.{is_due};
 ghost use Rattle.execution_model.specs.Feeds.{completed_at};
 ghost use Rattle.live_executor.specs.Due.{holds_from, PassesFrom};
-ghost use Rattle.live_executor.specs.Limits.{AreBefore, end_of_time};
+ghost use Rattle.live_executor.specs.Limits.{end_of_time};
 ghost use Rattle.live_executor.specs.WokenPoints.{times, condition_count, PassesSince, IsAwake};
 ghost use Rattle.live_executor.specs.WokenPoints.{IsFoundOrKept};
 
 use crate::dispatched_network::Dispatched;
+use crate::moments::Moments;
 use net_model::PointId;
 use std::alloc::{AllocError, Global};
 use tournament_queue::DueQueue;
@@ -43,10 +44,9 @@ impl OpenConditions {
     pub(crate) fn initial(
         alloc: Global,
         dispatched: &Dispatched,
-        moments: &[Option<u64>],
+        moments: &Moments,
     ) -> Result<OpenConditions, AllocError>
-        requires none { moments.now ≡ replicate (length dispatched.now.setting.dispatch) None }
-        requires early { AreBefore end_of_time moments.now }
+        requires { moments.now ≡ replicate (length dispatched.now.setting.dispatch) None }
         ensures { IfOk result (λ open_conditions. IsAwake dispatched.now.setting 0 moments.now
             open_conditions.counts.items open_conditions.due) }
     {
@@ -58,11 +58,10 @@ impl OpenConditions {
     }
 
     /// Counts the lower bounds and waits of a point, and finds from when on it is due.
-    fn find(&mut self, dispatched: &Dispatched, moments: &[Option<u64>], point: PointId)
+    fn find(&mut self, dispatched: &Dispatched, moments: &Moments, point: PointId)
         requires point { point.0 < length dispatched.now.setting.dispatch }
         requires moments { length moments.now ≡ length dispatched.now.setting.dispatch }
         requires count { length self.old.counts.items ≡ length dispatched.now.setting.dispatch }
-        requires early { AreBefore end_of_time moments.now }
         ensures counts { self.new.counts.items ≡ slice_set self.old.counts.items point.0
             (condition_count (conditions_at dispatched.now.setting.dispatch point)) }
         ensures due { self.new.due ≡ slice_set self.old.due point.0 (moment_of self.new.due point) }
@@ -91,11 +90,10 @@ impl OpenConditions {
     }
 
     /// Finds from when on a point is due.
-    fn wake(&mut self, dispatched: &Dispatched, moments: &[Option<u64>], now: u64, point: PointId)
+    fn wake(&mut self, dispatched: &Dispatched, moments: &Moments, now: u64, point: PointId)
         requires point { point.0 < length dispatched.now.setting.dispatch }
         requires moments { length moments.now ≡ length dispatched.now.setting.dispatch }
         requires due { length self.old.counts.items ≡ length dispatched.now.setting.dispatch }
-        requires early { AreBefore end_of_time moments.now }
         ensures due { self.new.due ≡ slice_set self.old.due point.0 (moment_of self.new.due point) }
         ensures found { PassesSince now (λ t. is_due dispatched.now.setting moments.now t point)
             (moment_of self.new.due point) }
@@ -109,7 +107,7 @@ impl OpenConditions {
     fn wake_all(
         &mut self,
         dispatched: &Dispatched,
-        moments: &[Option<u64>],
+        moments: &Moments,
         now: u64,
         waiters: &[PointId],
     )
@@ -117,7 +115,6 @@ impl OpenConditions {
             dispatched.now.setting.dispatch) waiters.now }
         requires moments { length moments.now ≡ length dispatched.now.setting.dispatch }
         requires counts { length self.old.counts.items ≡ length dispatched.now.setting.dispatch }
-        requires early { AreBefore end_of_time moments.now }
         ensures each { (point : PointId)
             → IsFoundOrKept now dispatched.now.setting moments.now self.old.counts.items
             waiters.now self.old.due self.new.due point }
@@ -135,7 +132,7 @@ impl OpenConditions {
     pub(crate) fn come(
         &mut self,
         dispatched: &Dispatched,
-        moments: &mut [Option<u64>],
+        moments: &mut Moments,
         point: PointId,
         moment: u64,
     )
@@ -143,13 +140,12 @@ impl OpenConditions {
             self.old.due }
         requires new { moment_of moments.old point ≡ None }
         requires point { point.0 < length dispatched.now.setting.dispatch }
-        requires early { AreBefore end_of_time moments.old }
-        requires moment { moment < end_of_time }
+        requires early { moment < end_of_time }
         ensures moments { moments.new ≡ completed_at moments.old moment point }
         ensures awake { IsAwake dispatched.now.setting moment moments.new self.new.counts.items
             self.new.due }
     {
-        moments[point.0 as usize] = Some(moment);
+        moments.set(point, moment);
         self.due.set(point, None);
         let fixes = dispatched.fixes(point);
         let ends = dispatched.ends(point);

@@ -22,7 +22,7 @@ push_reserved-requires c =
     let spare_capacity = subst (λ (acts : List Act). length acts + points_left old.moments ≤ length old.moments) same few in
     let place = its_place c.args.dispatched.now c.args.t c.args.point old c.requires.stands c.requires.may in
     subst (λ (n : ℕ). n < vec_capacity now.acts) (sym now.acts.ok.0)
-    (capacity_before old.moments now.moments.items c.args.t c.args.point place c.requires.may.is_new moments_are now.acts.items (vec_capacity now.acts) spare_capacity c.self-2.invariant.acts_fit.reserved)
+    (capacity_before old.moments now.moments c.args.t c.args.point place c.requires.may.is_new moments_are now.acts.items (vec_capacity now.acts) spare_capacity c.self-2.invariant.acts_fit.reserved)
 
 pub invariant_of-self : goal.invariant_of-self
 invariant_of-self c =
@@ -35,8 +35,8 @@ invariant_of-self c =
     let place = its_place c.args.dispatched.now c.args.t c.args.point old c.requires.stands c.requires.may in
     record {
       counted = c.self-2.invariant.counted;
-      acts_fit = subst (λ (n : ℕ). HasCapacityLeft now.moments.items c.push_reserved.new.self.items n) (sym c.push_reserved.ensures.capacity)
-          (capacity_after old.moments now.moments.items c.args.t c.args.point place c.requires.may.is_new moments_are now.acts.items c.push_reserved.new.self.items (record { moment = c.args.t; point = c.args.point })
+      acts_fit = subst (λ (n : ℕ). HasCapacityLeft now.moments c.push_reserved.new.self.items n) (sym c.push_reserved.ensures.capacity)
+          (capacity_after old.moments now.moments c.args.t c.args.point place c.requires.may.is_new moments_are now.acts.items c.push_reserved.new.self.items (record { moment = c.args.t; point = c.args.point })
           (vec_capacity now.acts) spare_capacity c.self-2.invariant.acts_fit.reserved c.push_reserved.ensures.items);
       points_fit = c.self-2.invariant.points_fit;
       inside = c.self-2.invariant.inside;
@@ -48,7 +48,7 @@ returns c =
     let old : ExecutionSoFar = c.args.self.now in
     let kept = c.self-2.inside in
     let now : ExecutionSoFar = record {
-      moments = kept.moments.items;
+      moments = kept.moments;
       counts = kept.open_conditions.counts.items;
       due = kept.open_conditions.due;
       latest = kept.expected.latest;

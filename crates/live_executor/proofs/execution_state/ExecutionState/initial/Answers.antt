@@ -1,4 +1,4 @@
-use Rattle.std.proofs.Common.{rules, ◌≡◌, ◌∙◌, ◌<◌, ◌≤◌, None, Option, ℕ, length, replicate, ap, sym, subst, arith}
+use Rattle.std.proofs.Common.{◌≡◌, ◌∙◌, ◌<◌, ◌≤◌, None, Option, ℕ, length, replicate, ap, sym, subst, arith}
 use Rattle.std.specs.List.{All}
 use Rattle.std.specs.Vec.{vec_capacity}
 use Rattle.std.proofs.lemmas.List.{length-replicate}
@@ -6,38 +6,29 @@ use Rattle.std.proofs.lemmas.List.Elements.{All-nil}
 use Rattle.net_model.specs.declared.ids.PointId.{PointId}
 use Rattle.net_model.specs.Moments.{Moments}
 use Rattle.live_executor.specs.ExpectedPoints.{AreLatest}
-use Rattle.live_executor.specs.Limits.{end_of_time}
-use Rattle.live_executor.specs.WokenPoints.{IsAwake}
-use Rattle.live_executor.proofs.ExecutorLemmas.{none_before, none_stands}
+use Rattle.live_executor.proofs.ExecutorLemmas.{none_stands}
 use Rattle.live_executor.proofs.KeptLemmas.{capacity_for_all}
 use Rattle.live_executor.proofs.execution_state.ExecutionState.initial.Goals as goal
 
-pub initial-requires-clause-none : goal.initial-requires-clause-none
-initial-requires-clause-none c =
+pub initial-requires : goal.initial-requires
+initial-requires c =
     let no_moment : Option ℕ = None in
-    let many : c.in_ok-moments.moments.items ≡ replicate c.points-points.result None = search rules in
-    c.as_slice.ensures.value ∙ (many ∙ ap (λ (n : ℕ). replicate n no_moment) c.points-points.ensures.count)
-
-pub initial-requires-clause-early : goal.initial-requires-clause-early
-initial-requires-clause-early c =
-    let many : c.in_ok-moments.moments.items ≡ replicate c.points-points.result None = search rules in
-    none_before end_of_time c.points-points.result c.as_slice.result.now (c.as_slice.ensures.value ∙ many)
+    c.in_ok-moments.ensures ∙ ap (λ (n : ℕ). replicate n no_moment) c.points-points.ensures.count
 
 pub invariant_of-result : goal.invariant_of-result
 invariant_of-result c =
     let no_moment : Option ℕ = None in
-    let moments = c.in_ok-moments.moments.items in
+    let moments : Moments = c.in_ok-moments.moments in
     let acts = c.in_ok-acts.acts in
     let came = c.in_ok-came.came in
-    let many : moments ≡ replicate c.points-points.result None = search rules in
+    let many : moments ≡ replicate c.points-points.result no_moment = c.in_ok-moments.ensures in
     let long : length moments ≡ c.points-points.result = ap (λ (m : Moments). length m) many ∙ length-replicate c.points-points.result no_moment in
-    let seen = ap (λ (m : Moments). length m) c.as_slice.ensures.value in
     let awake = c.in_ok-open_conditions.ensures in
     let acts_fit : length moments ≤ vec_capacity acts = (let places = c.in_ok-acts.ensures.capacity in omega (arith, places, long)) in
     let points_fit : length moments ≤ vec_capacity came = (let places = c.in_ok-came.ensures.capacity in omega (arith, places, long)) in
     let inside : PointId → Type 0 = λ (point : PointId). point.0 < length moments in
     record {
-      counted = omega (arith, awake.counts_count, awake.moments_count, seen);
+      counted = omega (arith, awake.counts_count, awake.moments_count);
       acts_fit = capacity_for_all moments acts.items (vec_capacity acts) c.in_ok-acts.ensures.items acts_fit;
       points_fit = capacity_for_all moments came.items (vec_capacity came) c.in_ok-came.ensures.items points_fit;
       inside = subst (All inside) (sym c.in_ok-came.ensures.items) (All-nil inside);
@@ -46,8 +37,7 @@ invariant_of-result c =
 pub returns-clause-moments : goal.returns-clause-moments
 returns-clause-moments c =
     let no_moment : Option ℕ = None in
-    let many : c.in_ok-moments.moments.items ≡ replicate c.points-points.result None = search rules in
-    many ∙ ap (λ (n : ℕ). replicate n no_moment) c.points-points.ensures.made
+    c.in_ok-moments.ensures ∙ ap (λ (n : ℕ). replicate n no_moment) c.points-points.ensures.made
 
 pub returns-clause-stands : goal.returns-clause-stands
 returns-clause-stands c =
@@ -55,9 +45,7 @@ returns-clause-stands c =
     let setting = network.setting in
     let no_moment : Option ℕ = None in
     let count = c.points-points.ensures.count in
-    let many : c.in_ok-moments.moments.items ≡ replicate c.points-points.result None = search rules in
-    let none : c.in_ok-moments.moments.items ≡ replicate (length setting.dispatch) no_moment = many ∙ ap (λ (n : ℕ). replicate n no_moment) count in
-    let open_conditions = c.in_ok-open_conditions.open_conditions in
+    let none : c.in_ok-moments.moments ≡ replicate (length setting.dispatch) no_moment = c.in_ok-moments.ensures ∙ ap (λ (n : ℕ). replicate n no_moment) count in
     none_stands network c.executes_the_same.ensures c.points-points.ensures.sound (sym count ∙ c.points-points.ensures.made) _ none
-    (subst (λ (moments : Moments). IsAwake setting 0 moments open_conditions.counts.items open_conditions.due) c.as_slice.ensures.value c.in_ok-open_conditions.ensures)
+    c.in_ok-open_conditions.ensures
     (subst (λ (moments : Moments). AreLatest setting moments c.in_ok-expected.expected.latest) (sym none) c.in_ok-expected.ensures)

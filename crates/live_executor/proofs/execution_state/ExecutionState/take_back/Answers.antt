@@ -1,4 +1,4 @@
-use Rattle.std.proofs.Common.{◌≡◌, ◌∙◌, ◌<◌, ◌++◌, List, length, take, drop, ap, sym, subst, arith}
+use Rattle.std.proofs.Common.{◌≡◌, ◌∙◌, ◌<◌, List, length, sym, subst, arith}
 use Rattle.std.specs.List.{All}
 use Rattle.std.specs.Vec.{vec_capacity}
 use Rattle.std.proofs.lemmas.List.Elements.{All-nil}
@@ -6,22 +6,18 @@ use Rattle.net_model.specs.declared.ids.PointId.{PointId}
 use Rattle.net_model.specs.Moments.{Moments}
 use Rattle.live_executor.specs.ExecutionStates.{ExecutionSoFar}
 use Rattle.live_executor.specs.Trace.{HaveComeSince}
-use Rattle.live_executor.proofs.KeptLemmas.{written_long, written_whole, capacity_for_all}
+use Rattle.live_executor.proofs.KeptLemmas.{capacity_for_all}
 use Rattle.live_executor.proofs.execution_state.ExecutionState.take_back.Goals as goal
 
 pub take_back-requires : goal.take_back-requires
 take_back-requires c = record {
-  inside = subst (λ (moments : Moments). All (λ (point : PointId). point.0 < length moments) c.as_slice.result.now) (sym c.as_mut_slice.ensures.value)
-      (subst (λ (came : List PointId). All (λ (point : PointId). point.0 < length c.self.inside.moments.items) came) (sym c.as_slice.ensures.value) c.self.invariant.inside);
+  inside = subst (λ (came : List PointId). All (λ (point : PointId). point.0 < length c.self.inside.moments) came) (sym c.as_slice.ensures.value) c.self.invariant.inside;
 }
 
 pub invariant_of-self : goal.invariant_of-self
 invariant_of-self c =
-    let kept = c.self.inside in
-    let moments : Moments = kept.moments.items in
-    let new = c.take_back.new.moments in
-    let now : Moments = take kept.moments.len (new ++ drop (length new) moments) in
-    let as_long : length moments ≡ length now = sym (written_long kept.moments.len new moments (sym kept.moments.ok.0) ∙ kept.moments.ok.0) in
+    let now : Moments = c.take_back.new.moments in
+    let as_long : length c.self.inside.moments ≡ length now = sym c.take_back.ensures.count in
     let invariant = c.self.invariant in
     record {
       counted = invariant.counted ∙ as_long;
@@ -33,8 +29,5 @@ invariant_of-self c =
 pub returns : goal.returns
 returns c = λ before since.
     let kept = c.self.inside in
-    let moments : Moments = kept.moments.items in
-    let seen : HaveComeSince before kept.came.items moments = subst (λ (state : ExecutionSoFar). HaveComeSince before state.came state.moments) (sym c.self.view_is) since in
-    let come_since = subst (λ (came : List PointId). HaveComeSince before came moments) (sym c.as_slice.ensures.value) seen in
-    let back : c.take_back.new.moments ≡ before = c.take_back.ensures.before before (subst (HaveComeSince before c.as_slice.result.now) (sym c.as_mut_slice.ensures.value) come_since) in
-    written_whole kept.moments.len c.take_back.new.moments moments (ap (λ (m : Moments). length m) back ∙ (seen.long ∙ sym kept.moments.ok.0)) ∙ back
+    let seen : HaveComeSince before kept.came.items kept.moments = subst (λ (state : ExecutionSoFar). HaveComeSince before state.came state.moments) (sym c.self.view_is) since in
+    c.take_back.ensures.before before (subst (λ (came : List PointId). HaveComeSince before came kept.moments) (sym c.as_slice.ensures.value) seen)

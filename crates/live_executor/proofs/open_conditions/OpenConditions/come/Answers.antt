@@ -26,13 +26,16 @@ returns-clause-awake c =
     let last = c.wake_all-2.new.self in
     let wakes : AreWoken setting point fixes ends = record { fixed = c.fixes-fixes.ensures.fixed; ended = c.ends-ends.ensures.ended } in
     let first : (other : PointId) → IsFoundOrKept now setting after lowered.counts.items fixes (slice_set old.due point.0 None) woken.due other =
-    λ other. subst (λ (due : Moments). IsFoundOrKept now setting after lowered.counts.items fixes due woken.due other) (c.lower.ensures.due ∙ c.set.ensures) (c.wake_all.ensures.each other) in
+    λ other. subst (λ (moments : Moments). IsFoundOrKept now setting moments lowered.counts.items fixes (slice_set old.due point.0 None) woken.due other) c.set.ensures
+    (subst (λ (due : Moments). IsFoundOrKept now setting c.set.new.self lowered.counts.items fixes due woken.due other) (c.lower.ensures.due ∙ c.set-2.ensures) (c.wake_all.ensures.each other)) in
     let second : (other : PointId) → IsFoundOrKept now setting after lowered.counts.items ends woken.due last.due other =
-    λ other. subst (λ (counts : List ℕ). IsFoundOrKept now setting after counts ends woken.due last.due other) c.wake_all.ensures.counts (c.wake_all-2.ensures.each other) in
+    λ other. subst (λ (moments : Moments). IsFoundOrKept now setting moments lowered.counts.items ends woken.due last.due other) c.set.ensures
+    (subst (λ (counts : List ℕ). IsFoundOrKept now setting c.set.new.self counts ends woken.due last.due other) c.wake_all.ensures.counts (c.wake_all-2.ensures.each other)) in
     let same_counts : last.counts.items ≡ lowered.counts.items = c.wake_all-2.ensures.counts ∙ c.wake_all.ensures.counts in
     let long : length last.due ≡ length old.due =
     last.whole ∙ (ap (λ (counts : List ℕ). length counts) same_counts ∙ (c.lower.ensures.count ∙ sym old.whole)) in
-    subst (λ (counts : List ℕ). IsAwake setting now after counts last.due) (sym same_counts)
+    subst (λ (moments : Moments). IsAwake setting now moments last.counts.items last.due) (sym c.set.ensures)
+    (subst (λ (counts : List ℕ). IsAwake setting now after counts last.due) (sym same_counts)
     (awake_after setting c.args.moments.now old.counts.items lowered.counts.items old.due woken.due last.due fixes ends point now
     (record {
       awake = c.requires.awake;
@@ -44,4 +47,4 @@ returns-clause-awake c =
       first = first;
       second = second;
       last_count = long;
-    }))
+    })))

@@ -28,5 +28,5 @@ loop-point-preserved c =
 pub returns : goal.returns
 returns c =
     let i = c.loop-point.invariant in
-    awake_first c.args.dispatched.now.setting c.args.moments.now c.requires.none c.loop-point.open_conditions.counts.items c.loop-point.open_conditions.due i.count c.loop-point.open_conditions.whole
+    awake_first c.args.dispatched.now.setting c.args.moments.now c.requires c.loop-point.open_conditions.counts.items c.loop-point.open_conditions.due i.count c.loop-point.open_conditions.whole
     (λ point inside. i.counted point (omega (arith, inside))) (λ point inside. i.found point (omega (arith, inside)))
