@@ -3,10 +3,13 @@
 ghost use Rattle.std.specs.Prelude.{◌≡◌};
 ghost use Rattle.texts.specs.Words.{words};
 ghost use Rattle.fleet_command.specs.FleetText.{fleet_between, go_line, is_taken, plan_name_line};
+ghost use Rattle.fleet_command.specs.PlanOrRefusals.{initial_plan_or_refusal};
+ghost use Rattle.fleet_command.specs.PlanOrRefusals.{plan_or_refusal_texts};
 
-use crate::plan_or_refusal::{PlanOrRefusal, PlanOrRefusalText};
-use command_engine::Stop;
+use crate::plan_or_refusal::{KeepRefusal, PlanOrRefusal, PlanOrRefusalText};
+use command_engine::{Stop, Tested, law_tested_texts_are_read};
 use common_answers::{Fault, stop_fault};
+use input_texts::PlanText;
 use net_model::{FormatKind, Name};
 use std::alloc::{AllocError, Global};
 use text_sequence::{Separator, Separators};
@@ -26,8 +29,15 @@ impl Separators for PlanSeparators {
 
     ghost between = { fleet_between };
 
+    ghost initial_text = { initial_plan_or_refusal };
+
+    ghost texts = { plan_or_refusal_texts };
+
     fn initial(&self, alloc: Global) -> PlanOrRefusalText {
-        PlanOrRefusalText::new(alloc)
+        Tested {
+            text: PlanText::new(alloc),
+            test: KeepRefusal,
+        }
     }
 
     fn open(
@@ -51,6 +61,10 @@ impl Separators for PlanSeparators {
 
     fn stop(&self, _done: &[(Name, PlanOrRefusal)], number: u32, stop: Stop) -> Fault {
         stop_fault(number, stop, FormatKind::NoEnd)
+    }
+
+    fn reads_by_grammar() {
+        law_tested_texts_are_read::<PlanText, KeepRefusal>();
     }
 }
 

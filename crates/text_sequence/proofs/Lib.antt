@@ -1,2 +1,1 @@
 pub mod SeriesLemmas
-pub mod KeptRefusalLemmas

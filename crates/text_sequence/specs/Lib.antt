@@ -1,4 +1,3 @@
 pub mod Between
 pub mod Series
 pub mod SeriesGrammar
-pub mod KeptRefusals

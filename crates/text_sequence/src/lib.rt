@@ -1,6 +1,5 @@
-//! Any number of texts, each under a key after a line that opens it, up to a line that closes them;
-//! and texts of which some refusals are kept as what they say. Each is read by the grammar that is
-//! made of that of the texts.
+//! Any number of texts, each under a key after a line that opens it, up to a line that closes them.
+//! They are read by the grammar that is made of that of the texts.
 #![tactic(auto)]
 
 pub mod laws;

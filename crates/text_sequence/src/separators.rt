@@ -1,9 +1,10 @@
 //! The lines between the texts of a series.
 
-ghost use Rattle.std.specs.Prelude.{◌≡◌, IfOk};
+ghost use Rattle.std.specs.Prelude.{◌≡◌, ℕ, IfOk};
+ghost use Rattle.command_engine.specs.Grammars.{Grammar, ReadsBy};
 ghost use Rattle.text_sequence.specs.Between.{Between};
 
-use command_engine::{InGrammar, Stop, Text};
+use command_engine::{Stop, Text};
 use std::alloc::{AllocError, Global};
 
 /// What a line between texts is.
@@ -25,14 +26,20 @@ pub trait Separators: Drop {
     type Key: Drop;
 
     /// The texts.
-    type Text: InGrammar;
+    type Text: Text;
 
     /// What the lines between texts mean.
     ghost between: { Between Self.Key Self.Text.Value Self.Text.Fault };
 
     /// A text before its first line.
+    ghost initial_text: { Self.Text };
+
+    /// The grammar of a text, if so many lines stand before it in the input.
+    ghost texts: { ℕ → Grammar Self.Text.Value Self.Text.Fault };
+
+    /// A text before its first line.
     fn initial(&self, alloc: Global) -> Self::Text
-        ensures { result ≡ Self.Text.initial_text };
+        ensures { result ≡ initial_text };
 
     /// What a line between texts is, after these. `AllocError` comes only for want of memory.
     fn open(
@@ -52,4 +59,8 @@ pub trait Separators: Drop {
         stop: Stop,
     ) -> <Self::Text as Text>::Fault
         ensures { result ≡ between.stops done.now number stop };
+
+    /// The law that a text is read by its grammar, wherever it stands in an input.
+    fn reads_by_grammar()
+        ensures { (past : ℕ) → ReadsBy Self.Text.reader initial_text past (texts past) };
 }

@@ -4,7 +4,7 @@ ghost use Rattle.text_sequence.specs.Series.{series_reader};
 
 use crate::read_texts::Done;
 use crate::separators::{Separator, Separators};
-use command_engine::{InGrammar, Parse, Stop, Text};
+use command_engine::{Parse, Stop, Text};
 use plan_port::MOST_LINE;
 use std::alloc::{AllocError, Global};
 
@@ -22,7 +22,7 @@ impl<O: Separators> Text for Series<O, O::Key, <O::Text as Text>::Value, O::Text
 
     type Fault = <O::Text as Text>::Fault;
 
-    ghost reader = { series_reader O.between O.Text.reader O.Text.initial_text };
+    ghost reader = { series_reader O.between O.Text.reader O.initial_text };
 
     fn longest(&self) -> u32 {
         match self {
