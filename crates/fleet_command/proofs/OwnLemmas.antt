@@ -152,7 +152,7 @@ blank_alone net number line said (Ended execution) nothing is = (nothing ∙ sym
 pub blank_says : (number : ℕ) (line said : List ℕ) (plan : FleetPlan) → said ≡ [] → IsEventLine plan.net blank line → SaysLine number line said plan plan
 blank_says number line said plan nothing is = record { net = refl; says = blank_alone plan.net number line said plan.execution nothing is }
 
--- a line that states something that a plan is told is not passed over, and neither is one with a fault
+-- a line that states something is not passed over, and neither is one with a fault
 pub stated_stays : (net : Plan) (reported : EventLine) (line : List ℕ) → IsEventLine net reported line → (reported ≡ blank → ⊥) → are_passed_over (words line) ≡ false
 stated_stays net blank line is never = absurd (never refl)
 stated_stays net (completed moment points) line is never = ap are_passed_over is.spelled

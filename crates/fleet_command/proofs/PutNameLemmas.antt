@@ -1,5 +1,5 @@
 -- What is put of a fleet are whole lines, each of which begins with the name of a plan.
-use Rattle.std.proofs.Common.{◌≡◌, ◌⊎◌, inl, inr, ℕ, suc, ◌+◌, Bool, true, false, List, [], ◌∷◌, ◌++◌, map, Option, Some, None, refl, sym, ap, ◌∙◌, subst}
+use Rattle.std.proofs.Common.{◌≡◌, inl, inr, ℕ, suc, ◌+◌, Bool, true, false, List, [], ◌∷◌, ◌++◌, map, Option, Some, None, refl, sym, ap, ◌∙◌, subst}
 use Rattle.std.specs.Prelude.{slice_get, slice_set}
 use Rattle.std.specs.List.{All}
 use Rattle.std.specs.Option.{option_map}
@@ -8,13 +8,12 @@ use Rattle.std.proofs.lemmas.Option.{slice_get-map}
 use Rattle.texts.specs.Lines.{InputLine, whole_lines}
 use Rattle.texts.specs.Words.{words, is_remark}
 use Rattle.texts.proofs.InputLemmas.{whole_lines_is}
-use Rattle.net_model.specs.Names.{is_name}
 use Rattle.command_engine.specs.Runs.{Here, after_line, Answers}
 use Rattle.command_engine.specs.declared.machines.Flow.TheVariants.{Continue}
 use Rattle.command_engine.proofs.RunLemmas.{goes_only_on_lines}
 use Rattle.multiplexed_commands.specs.Merged.{TakesNamed, TakesWords, after_own, closes}
 use Rattle.multiplexed_commands.specs.NamedLines.{IsNaming, after_name, named}
-use Rattle.multiplexed_commands.specs.Starts.{Start, starting_members, starts_put}
+use Rattle.multiplexed_commands.specs.Starts.{Start, starts_put}
 use Rattle.multiplexed_commands.proofs.NamedLineLemmas.{lines_both, named_whole, whole_both, whole_named, whole_no_end, whole_none, words_named}
 use Rattle.event_phase.specs.EventRuns.{EventRun}
 use Rattle.event_phase.specs.EventPhase.{executing_machine}

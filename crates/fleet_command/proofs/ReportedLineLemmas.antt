@@ -1,4 +1,4 @@
--- What a plan that runs says to what a line states, by what its fleet answers.
+-- What a plan says to what a line states, by what its fleet answers.
 use Rattle.std.proofs.Common.{◌≡◌, inl, inr, ◌≤◌, ℕ, false, List, length, Option, Some, None, refl, sym, ap, ◌∙◌, subst, arith}
 use Rattle.std.specs.Prelude.{slice_get, slice_set}
 use Rattle.std.specs.List.{All}
@@ -13,7 +13,7 @@ use Rattle.execution_model.specs.declared.feed_answers.Fed.TheVariants as fed
 use Rattle.execution_model.specs.declared.feed_answers.Finished.{Finished}
 use Rattle.execution_model.specs.declared.feed_answers.Finished.TheVariants as finished
 use Rattle.command_engine.specs.declared.endings.End.{End}
-use Rattle.command_engine.specs.declared.machines.Flow.TheVariants.{Continue, Finish}
+use Rattle.command_engine.specs.declared.machines.Flow.TheVariants.{Finish}
 use Rattle.multiplexed_commands.specs.Alone.{MemberState, Runs, Idle, idle_said, stands_after}
 use Rattle.event_phase.specs.EventRuns.{EventRun, event_run_of}
 use Rattle.event_phase.specs.EventPhase.{AnswersEnd, EndsAmong, FeedsAmong, PutsFed, answer_capacity}
@@ -28,7 +28,6 @@ use Rattle.plan_fleet.specs.declared.states.FleetFinished.TheVariants as fleet_f
 use Rattle.plan_fleet.specs.PlanExecutions.{execution_after_feed, execution_after_finish, execution_of, state_of}
 use Rattle.plan_fleet.specs.declared.plan_execution.PlanExecution.{PlanExecution}
 use Rattle.plan_fleet.specs.declared.plan_execution.PlanExecution.TheVariants.{NotControllable, Running, Complete, Ended}
-use Rattle.plan_fleet.specs.declared.states.State.{State}
 use Rattle.plan_fleet.specs.declared.states.State.TheVariants as state
 use Rattle.fleet_command.proofs.ShownLemmas.{ends_shown, puts_shown}
 use Rattle.fleet_command.specs.FleetStands.{SaysIdle, SaysReported, SaysStated, said_capacity, slot_stands, stands_at, stands_by, stands_of}

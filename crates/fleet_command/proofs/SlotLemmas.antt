@@ -15,7 +15,6 @@ use Rattle.plan_fleet.specs.Fleets.{ChangesOne}
 use Rattle.plan_fleet.specs.FleetPlans.{FleetPlan}
 use Rattle.fleet_command.specs.FleetStands.{AnswersMember, ArePlaced, HasCapacityAt, HaveCapacity, SlotSays, SaysLine, fleet_capacity, fleet_member_of, members_of, stands_at, slot_stands, stands_of, stands_capacity}
 use Rattle.fleet_command.specs.declared.entries.FleetEntry.{FleetEntry}
-use Rattle.fleet_command.specs.declared.entries.FleetSlot.{FleetSlot}
 use Rattle.fleet_command.specs.declared.entries.FleetSlot.TheVariants.{Opened}
 use Rattle.fleet_command.proofs.OwnLemmas.{says_capacity}
 use Rattle.fleet_command.proofs.StandsLemmas.{members_after, placed_stays, capacity_of_one, capacity_set, capacity_stays}

@@ -10,7 +10,7 @@ use Rattle.std.proofs.Math.Seq.{take-suc}
 use Rattle.net_model.specs.Network.{Plan}
 use Rattle.net_model.specs.ShownForm.{shown_form}
 use Rattle.net_model.specs.declared.fault.BuildFault.{BuildFault}
-use Rattle.execution_model.specs.Feeds.{Execution, IsDueAnswer, started}
+use Rattle.execution_model.specs.Feeds.{started}
 use Rattle.execution_model.specs.Laws.{setting_of}
 use Rattle.command_engine.specs.declared.machines.Flow.TheVariants.{Continue}
 use Rattle.event_phase.specs.EventRuns.{EventRun, event_run_of}

@@ -6,27 +6,23 @@ ghost use Rattle.fleet_command.specs.FleetCommand.{plans_machine};
 ghost use Rattle.fleet_command.specs.FleetStands.{AnswersMember, fleet_capacity};
 
 use crate::entries::{FleetEntry, place_of};
-use crate::own_lines::answer_own;
+use crate::own_lines::FleetAnswerer;
 use command_engine::{Answer, Command, End, Flow, Refusal, Stop};
 use common_answers::{Fault, stop_fault};
-use event_stream::EventReader;
 use multiplexed_commands::{after_first, put_named};
 use net_model::FormatKind;
-use plan_fleet::Fleet;
 use plan_port::MOST_LINE;
 use std::alloc::{AllocError, Global};
 use std::marker::Model;
 use std::thread::Threads;
 use texts::{first_word, next_word};
 
-/// The plans of a fleet after `go`, with the reader of their lines and a buffer in which one answer
-/// of one plan stands. Contracts see it as the plans under their names.
+/// The plans of a fleet after `go`, with what their lines are answered by. Contracts see it as the
+/// plans under their names.
 #[derive(Drop)]
 pub struct Serving {
-    pub(crate) fleet: Fleet,
+    pub(crate) answerer: FleetAnswerer,
     pub(crate) entries: Vec<FleetEntry>,
-    pub(crate) events: EventReader,
-    pub(crate) said: Answer,
 }
 
 impl Model for Serving {
@@ -37,10 +33,10 @@ impl Model for Serving {
 
     ghost Value = { List (Member EventRun) };
 
-    ghost view = { λ serving. members_of serving.fleet serving.entries.items };
+    ghost view = { λ serving. members_of serving.answerer.fleet serving.entries.items };
 
-    ghost invariant = { λ serving. ArePlaced serving.fleet serving.entries.items
-        × HaveCapacity serving.fleet serving.said.capacity };
+    ghost invariant = { λ serving. ArePlaced serving.answerer.fleet serving.entries.items
+        × HaveCapacity serving.answerer.fleet serving.answerer.said.capacity };
 }
 
 impl Command for Serving {
@@ -102,21 +98,13 @@ fn answer_line(
 {
     answer.has_capacity();
     let Serving {
-        mut fleet,
+        mut answerer,
         mut entries,
-        mut events,
-        mut said,
     } = serving;
     let entry = entries[place];
     let count = entry.count.saturating_add(1).min(number);
     entries[place] = FleetEntry { count, ..entry };
-    said.clear();
-    answer_own(&mut fleet, &mut events, &mut said, entry.slot, count, line);
-    put_named(answer, entry.name.bytes(), said.bytes());
-    Serving {
-        fleet,
-        entries,
-        events,
-        said,
-    }
+    answerer.answer(entry.slot, count, line);
+    put_named(answer, entry.name.bytes(), answerer.said.bytes());
+    Serving { answerer, entries }
 }

@@ -14,6 +14,7 @@ ghost use Rattle.fleet_command.specs.declared.entries.FleetSlot.TheVariants.{Ope
 
 use crate::entries::{FleetEntry, FleetSlot};
 use crate::fleet_phase::Serving;
+use crate::own_lines::FleetAnswerer;
 use crate::plan_division::{Divided, divide};
 use crate::plans_text::{FleetText, Plans, initial};
 use command_contracts::{OneRun, Request, Specified};
@@ -97,12 +98,12 @@ impl Begin<((), Plans)> for FleetQuestion {
         said.clear();
         said.reserve(spare_capacity)?;
         answer.reserve(MOST_NAMED * spare_capacity + 1)?;
-        Ok(Flow::Continue(Serving {
+        let answerer = FleetAnswerer {
             fleet,
-            entries,
             events,
             said,
-        }))
+        };
+        Ok(Flow::Continue(Serving { answerer, entries }))
     }
 }
 

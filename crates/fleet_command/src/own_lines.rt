@@ -20,35 +20,141 @@ use net_model::FormatKind;
 use plan_fleet::{Fleet, FleetFed, FleetFinished, State};
 use texts::first_word;
 
-/// Answers a line of one plan by its number among its own, into the buffer, which is empty: one
-/// that runs by its execution, and every other by `idle`.
-pub(crate) fn answer_own(
-    fleet: &mut Fleet,
-    events: &mut EventReader,
-    said: &mut Answer,
-    slot: FleetSlot,
-    number: u32,
-    line: &[u8],
-)
-    requires empty { said.old.text ≡ [] }
-    requires placed { (place : _) → slot ≡ Opened place → place < length fleet.old }
-    requires spare_capacity { HaveCapacity fleet.old said.old.capacity }
-    requires line { length line.now ≤ most_line }
-    ensures says { SlotSays fleet.old slot number line.now said.new.text fleet.new }
-    ensures size { length said.new.text ≤ said_capacity (slot_stands fleet.old slot) }
-    ensures capacity { said.old.capacity ≤ said.new.capacity }
-{
-    match slot {
-        FleetSlot::Opened(place) => answer_opened(fleet, events, said, place, number, line),
-        FleetSlot::Refused(_) => {
-            if first_word(line).is_some() {
-                put_idle(said);
+/// The plans of a fleet, with the reader of their lines and a buffer in which one answer of one
+/// plan stands.
+#[derive(Drop)]
+pub(crate) struct FleetAnswerer {
+    pub(crate) fleet: Fleet,
+    pub(crate) events: EventReader,
+    pub(crate) said: Answer,
+}
+
+impl FleetAnswerer {
+    /// Answers a line of one plan by its number among its own, in the buffer: one that runs by its
+    /// execution, and every other by `idle`.
+    pub(crate) fn answer(&mut self, slot: FleetSlot, number: u32, line: &[u8])
+        requires placed { (place : _) → slot ≡ Opened place → place < length self.old.fleet }
+        requires spare_capacity { HaveCapacity self.old.fleet self.old.said.capacity }
+        requires line { length line.now ≤ most_line }
+        ensures says { SlotSays self.old.fleet slot number line.now self.new.said.text
+            self.new.fleet }
+        ensures size { length self.new.said.text ≤ said_capacity
+            (slot_stands self.old.fleet slot) }
+        ensures capacity { self.old.said.capacity ≤ self.new.said.capacity }
+    {
+        self.said.clear();
+        match slot {
+            FleetSlot::Opened(place) => self.answer_opened(place, number, line),
+            FleetSlot::Refused(_) => {
+                if first_word(line).is_some() {
+                    put_idle(&mut self.said);
+                }
             }
+        }
+    }
+
+    /// Answers a line of a plan that was opened, in the buffer, which is empty.
+    fn answer_opened(&mut self, place: u32, number: u32, line: &[u8])
+        requires empty { self.old.said.text ≡ [] }
+        requires spare_capacity { HasCapacityAt self.old.fleet place self.old.said.capacity }
+        requires line { length line.now ≤ most_line }
+        ensures changes { ChangesOne self.old.fleet place
+            (SaysLine number line.now self.new.said.text) self.new.fleet }
+        ensures size { length self.new.said.text ≤ said_capacity
+            (slot_stands self.old.fleet (Opened place)) }
+        ensures capacity { self.old.said.capacity ≤ self.new.said.capacity }
+    {
+        match self.events.read(line, self.fleet.network(place)) {
+            Ok(Event::Blank) => {}
+            Ok(Event::At(moment)) => self.feed(place, number, moment),
+            Ok(Event::Done) => self.finish(place, number),
+            Err(kind) => self.end(place, number, kind),
+        }
+    }
+
+    /// Feeds a plan the points that the reader has, and puts the answer into the buffer, which is
+    /// empty.
+    fn feed(&mut self, place: u32, number: u32, moment: u64)
+        requires empty { self.old.said.text ≡ [] }
+        requires spare_capacity { HasCapacityAt self.old.fleet place self.old.said.capacity }
+        requires points { AtPlan self.old.fleet place
+            (λ plan. All (IsPoint plan.net) self.old.events) }
+        ensures changes { ChangesOne self.old.fleet place
+            (SaysStated number (completed moment self.old.events) self.new.said.text)
+            self.new.fleet }
+        ensures size { length self.new.said.text ≤ said_capacity
+            (slot_stands self.old.fleet (Opened place)) }
+        ensures capacity { self.old.said.capacity ≤ self.new.said.capacity }
+    {
+        // The proof reads here that the plan is sound before the feed, and after it by the same
+        // call below.
+        let _ = self.fleet.network(place);
+        match self.fleet.feed(place, moment, self.events.completions()) {
+            FleetFed::Fed(fed) => {
+                let net = self.fleet.network(place);
+                let due = self.fleet.next_due(place);
+                put_fed(
+                    &mut self.said,
+                    net,
+                    number,
+                    fed,
+                    self.fleet.acts(place),
+                    due,
+                );
+            }
+            FleetFed::Idle => put_idle(&mut self.said),
+        }
+    }
+
+    /// Ends the execution of a plan, and puts the answer into the buffer, which is empty.
+    fn finish(&mut self, place: u32, number: u32)
+        requires empty { self.old.said.text ≡ [] }
+        requires spare_capacity { HasCapacityAt self.old.fleet place self.old.said.capacity }
+        ensures changes { ChangesOne self.old.fleet place
+            (SaysStated number done self.new.said.text) self.new.fleet }
+        ensures size { length self.new.said.text ≤ said_capacity
+            (slot_stands self.old.fleet (Opened place)) }
+        ensures capacity { self.old.said.capacity ≤ self.new.said.capacity }
+    {
+        let _ = self.fleet.network(place);
+        match self.fleet.finish(place) {
+            FleetFinished::Finished(finished) => {
+                let net = self.fleet.network(place);
+                put_end(
+                    &mut self.said,
+                    net,
+                    number,
+                    finished,
+                    self.fleet.acts(place),
+                );
+            }
+            FleetFinished::Idle => put_idle(&mut self.said),
+        }
+    }
+
+    /// Ends a plan that runs, for the fault of its line, and puts the answer into the buffer, which
+    /// is empty.
+    fn end(&mut self, place: u32, number: u32, kind: FormatKind)
+        requires empty { self.old.said.text ≡ [] }
+        requires place { place < length self.old.fleet }
+        ensures changes { (line : _)
+            → AtPlan self.old.fleet place (λ plan. IsEventFault plan.net line kind)
+            → ChangesOne self.old.fleet place (SaysLine number line self.new.said.text)
+            self.new.fleet }
+        ensures size { length self.new.said.text ≤ said_capacity
+            (slot_stands self.old.fleet (Opened place)) }
+        ensures capacity { self.old.said.capacity ≤ self.new.said.capacity }
+    {
+        if self.fleet.state(place) == State::Running {
+            refuse_line(&mut self.said, number, kind);
+            self.fleet.end(place);
+        } else {
+            put_idle(&mut self.said);
         }
     }
 }
 
-/// Puts that a plan is idle.
+/// Puts that a plan is idle into the buffer, which is empty.
 fn put_idle(said: &mut Answer)
     requires { said.old.text ≡ [] }
     ensures text { said.new.text ≡ idle_said false }
@@ -57,100 +163,4 @@ fn put_idle(said: &mut Answer)
 {
     said.has_capacity();
     said.put_line(&[Word::Text("idle")]);
-}
-
-/// Answers a line of a plan that was opened.
-fn answer_opened(
-    fleet: &mut Fleet,
-    events: &mut EventReader,
-    said: &mut Answer,
-    place: u32,
-    number: u32,
-    line: &[u8],
-)
-    requires empty { said.old.text ≡ [] }
-    requires spare_capacity { HasCapacityAt fleet.old place said.old.capacity }
-    requires line { length line.now ≤ most_line }
-    ensures changes { ChangesOne fleet.old place (SaysLine number line.now said.new.text)
-        fleet.new }
-    ensures size { length said.new.text ≤ said_capacity (slot_stands fleet.old (Opened place)) }
-    ensures capacity { said.old.capacity ≤ said.new.capacity }
-{
-    match events.read(line, fleet.network(place)) {
-        Ok(Event::Blank) => {}
-        Ok(Event::At(moment)) => feed_plan(fleet, events, said, place, number, moment),
-        Ok(Event::Done) => finish_plan(fleet, said, place, number),
-        Err(kind) => end_plan(fleet, said, place, number, kind),
-    }
-}
-
-/// Feeds a plan the points that the reader has, and puts the answer.
-fn feed_plan(
-    fleet: &mut Fleet,
-    events: &EventReader,
-    said: &mut Answer,
-    place: u32,
-    number: u32,
-    moment: u64,
-)
-    requires empty { said.old.text ≡ [] }
-    requires spare_capacity { HasCapacityAt fleet.old place said.old.capacity }
-    requires points { AtPlan fleet.old place (λ plan. All (IsPoint plan.net) events.now) }
-    ensures changes { ChangesOne fleet.old place
-        (SaysStated number (completed moment events.now) said.new.text) fleet.new }
-    ensures size { length said.new.text ≤ said_capacity (slot_stands fleet.old (Opened place)) }
-    ensures capacity { said.old.capacity ≤ said.new.capacity }
-{
-    // The proof reads here that the plan is sound before the feed, and after it by the same call
-    // below.
-    let _ = fleet.network(place);
-    match fleet.feed(place, moment, events.completions()) {
-        FleetFed::Fed(fed) => {
-            let net = fleet.network(place);
-            put_fed(
-                said,
-                net,
-                number,
-                fed,
-                fleet.acts(place),
-                fleet.next_due(place),
-            );
-        }
-        FleetFed::Idle => put_idle(said),
-    }
-}
-
-/// Ends the execution of a plan, and puts the answer.
-fn finish_plan(fleet: &mut Fleet, said: &mut Answer, place: u32, number: u32)
-    requires empty { said.old.text ≡ [] }
-    requires spare_capacity { HasCapacityAt fleet.old place said.old.capacity }
-    ensures changes { ChangesOne fleet.old place (SaysStated number done said.new.text) fleet.new }
-    ensures size { length said.new.text ≤ said_capacity (slot_stands fleet.old (Opened place)) }
-    ensures capacity { said.old.capacity ≤ said.new.capacity }
-{
-    let _ = fleet.network(place);
-    match fleet.finish(place) {
-        FleetFinished::Finished(finished) => {
-            let net = fleet.network(place);
-            put_end(said, net, number, finished, fleet.acts(place));
-        }
-        FleetFinished::Idle => put_idle(said),
-    }
-}
-
-/// Ends a plan that runs, for the fault of its line, and puts the answer.
-fn end_plan(fleet: &mut Fleet, said: &mut Answer, place: u32, number: u32, kind: FormatKind)
-    requires empty { said.old.text ≡ [] }
-    requires place { place < length fleet.old }
-    ensures changes { (line : _) → AtPlan fleet.old place (λ plan. IsEventFault plan.net line kind)
-        → ChangesOne fleet.old place (SaysLine number line said.new.text) fleet.new }
-    ensures size { length said.new.text ≤ said_capacity (slot_stands fleet.old (Opened place)) }
-    ensures capacity { said.old.capacity ≤ said.new.capacity }
-{
-    if fleet.state(place) == State::Running {
-        refuse_line(said, number, kind);
-        fleet.end(place);
-    } else {
-        put_idle(said);
-    }
 }

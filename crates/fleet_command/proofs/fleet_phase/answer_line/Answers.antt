@@ -14,21 +14,21 @@ use Rattle.fleet_command.proofs.fleet_phase.answer_line.Goals as goal
 
 pub put_named-requires-clause-whole : goal.put_named-requires-clause-whole
 put_named-requires-clause-whole c =
-    let slot = c.answer_own.ensures.says in
-    is_whole c.bytes-2.result.now c.answer_own.new.said.text c.bytes-2.ensures.value
-    (says_whole (slot_stands c.serving.inside.fleet c.index.result.now.slot) (slot_stands c.answer_own.new.fleet c.index.result.now.slot) c.min-count.result c.args.line.now c.answer_own.new.said.text slot.says)
+    let slot = c.answer.ensures.says in
+    is_whole c.bytes-2.result.now c.answer.new.self.said.text c.bytes-2.ensures.value
+    (says_whole (slot_stands c.serving.inside.answerer.fleet c.index.result.now.slot) (slot_stands c.answer.new.self.fleet c.index.result.now.slot) c.min-count.result c.args.line.now c.answer.new.self.said.text slot.says)
 
 pub put_named-requires-clause-spare_capacity : goal.put_named-requires-clause-spare_capacity
 put_named-requires-clause-spare_capacity c =
-    let fleet = c.serving.inside.fleet in
+    let fleet = c.serving.inside.answerer.fleet in
     let entries = c.serving.inside.entries.items in
     let place = c.args.place in
     let entry = c.index.result.now in
     let count = c.min-count.result in
     let line = c.args.line.now in
-    let said = c.answer_own.new.said.text in
-    let after = c.answer_own.new.fleet in
-    let slot = c.answer_own.ensures.says in
+    let said = c.answer.new.self.said.text in
+    let after = c.answer.new.self.fleet in
+    let slot = c.answer.ensures.says in
     let many = members_many fleet entries in
     let viewed = ap length c.serving.view_is in
     let within : place < length entries = omega (arith, c.requires.within, viewed, many) in
@@ -36,7 +36,7 @@ put_named-requires-clause-spare_capacity c =
     let name_is : is_name c.bytes.result.now ≡ true = search rules in
     let short = length_of_name c.bytes.result.now name_is in
     let size = ap length c.bytes-2.ensures.value in
-    let fits = c.answer_own.ensures.size in
+    let fits = c.answer.ensures.size in
     let spare_capacity : fleet_capacity (members_of fleet entries) ≤ c.args.answer.now.capacity = subst (λ (ms : List (Member EventRun)). fleet_capacity ms ≤ c.args.answer.now.capacity) (sym c.serving.view_is) c.requires.spare_capacity in
     let none = ap length c.requires.empty in
     let most =
@@ -47,15 +47,15 @@ put_named-requires-clause-spare_capacity c =
 
 pub invariant_of-result : goal.invariant_of-result
 invariant_of-result c =
-    let fleet = c.serving.inside.fleet in
+    let fleet = c.serving.inside.answerer.fleet in
     let entries = c.serving.inside.entries.items in
     let place = c.args.place in
     let entry = c.index.result.now in
     let count = c.min-count.result in
     let line = c.args.line.now in
-    let said = c.answer_own.new.said.text in
-    let after = c.answer_own.new.fleet in
-    let slot = c.answer_own.ensures.says in
+    let said = c.answer.new.self.said.text in
+    let after = c.answer.new.self.fleet in
+    let slot = c.answer.ensures.says in
     let many = members_many fleet entries in
     let viewed = ap length c.serving.view_is in
     let within : place < length entries = omega (arith, c.requires.within, viewed, many) in
@@ -65,23 +65,23 @@ invariant_of-result c =
     let puts : put ≡ named entry.name said =
     c.put_named.ensures.text ∙ (ap (λ (t : List ℕ). t ++ named c.bytes.result.now c.bytes-2.result.now) c.requires.empty
     ∙ (ap (λ (n : List ℕ). named n c.bytes-2.result.now) c.bytes.ensures.text ∙ ap (λ (b : List ℕ). named entry.name b) c.bytes-2.ensures.value)) in
-    let grown : c.serving.inside.said.capacity ≤ c.answer_own.new.said.capacity = omega (arith, c.clear.ensures.capacity, c.answer_own.ensures.capacity) in (
+    let grown : c.serving.inside.answerer.said.capacity ≤ c.answer.new.self.said.capacity = c.answer.ensures.capacity in (
       placed_after fleet after entries place c.args.number count line said put entry c.serving.invariant.0 here own slot puts,
       capacity_after fleet after entries place c.args.number count line said put entry c.serving.invariant.0 here own
-          slot puts c.serving.inside.said.capacity c.answer_own.new.said.capacity grown c.serving.invariant.1,
+          slot puts c.serving.inside.answerer.said.capacity c.answer.new.self.said.capacity grown c.serving.invariant.1,
     )
 
 pub returns-clause-answers : goal.returns-clause-answers
 returns-clause-answers c =
-    let fleet = c.serving.inside.fleet in
+    let fleet = c.serving.inside.answerer.fleet in
     let entries = c.serving.inside.entries.items in
     let place = c.args.place in
     let entry = c.index.result.now in
     let count = c.min-count.result in
     let line = c.args.line.now in
-    let said = c.answer_own.new.said.text in
-    let after = c.answer_own.new.fleet in
-    let slot = c.answer_own.ensures.says in
+    let said = c.answer.new.self.said.text in
+    let after = c.answer.new.self.fleet in
+    let slot = c.answer.ensures.says in
     let many = members_many fleet entries in
     let viewed = ap length c.serving.view_is in
     let within : place < length entries = omega (arith, c.requires.within, viewed, many) in
@@ -96,15 +96,15 @@ returns-clause-answers c =
 
 pub returns-clause-spare_capacity : goal.returns-clause-spare_capacity
 returns-clause-spare_capacity c =
-    let fleet = c.serving.inside.fleet in
+    let fleet = c.serving.inside.answerer.fleet in
     let entries = c.serving.inside.entries.items in
     let place = c.args.place in
     let entry = c.index.result.now in
     let count = c.min-count.result in
     let line = c.args.line.now in
-    let said = c.answer_own.new.said.text in
-    let after = c.answer_own.new.fleet in
-    let slot = c.answer_own.ensures.says in
+    let said = c.answer.new.self.said.text in
+    let after = c.answer.new.self.fleet in
+    let slot = c.answer.ensures.says in
     let many = members_many fleet entries in
     let viewed = ap length c.serving.view_is in
     let within : place < length entries = omega (arith, c.requires.within, viewed, many) in

@@ -18,7 +18,7 @@ use Rattle.fleet_command.proofs.fleet_phase.ServingCommand.take_line.Goals.{else
 
 pub returns-in-Some-place_of-clause-takes : goal.returns-in-Some-place_of-clause-takes
 returns-in-Some-place_of-clause-takes g c =
-    let fleet = c.self.inside.fleet in
+    let fleet = c.self.inside.answerer.fleet in
     let entries = c.self.inside.entries.items in
     let first = c.in-Some.name.now in
     let others = words c.in-Some.rest.now in
@@ -43,7 +43,7 @@ returns-in-Some-place_of-clause-takes g c =
 
 pub returns-in-None-clause-takes : goal.returns-in-None-clause-takes
 returns-in-None-clause-takes g c =
-    let fleet = c.self.inside.fleet in
+    let fleet = c.self.inside.answerer.fleet in
     let entries = c.self.inside.entries.items in
     let first = c.in-Some.name.now in
     let others = words c.in-Some.rest.now in

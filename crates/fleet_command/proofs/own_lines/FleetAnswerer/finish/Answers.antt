@@ -4,11 +4,11 @@ use Rattle.command_engine.specs.declared.machines.Flow.TheVariants.{Finish}
 use Rattle.event_phase.specs.EventPhase.{AnswersEnd, answer_capacity, EndsAmong}
 use Rattle.plan_fleet.specs.FleetPlans.{FleetPlan}
 use Rattle.fleet_command.proofs.ReportedLineLemmas.{FinishedAt, at_here, finished_among, finished_at, finished_changes, finished_idle, finished_net, finished_size}
-use Rattle.fleet_command.proofs.own_lines.finish_plan.Goals as goal
+use Rattle.fleet_command.proofs.own_lines.FleetAnswerer.finish.Goals as goal
 
 pub put_end-requires-clause-points : goal.put_end-requires-clause-points
 put_end-requires-clause-points c =
-    let fleet = c.args.fleet.now in
+    let fleet = c.args.self.now.fleet in
     let after = c.finish.new.self in
     let place = c.args.place in
     let at : FinishedAt fleet place c.in-Finished.finished after = finished_at fleet after place c.in-Finished.finished c.finish.result c.in-Finished.is c.finish.ensures in
@@ -20,7 +20,7 @@ put_end-requires-clause-points c =
 
 pub returns-in-Finished-clause-changes : goal.returns-in-Finished-clause-changes
 returns-in-Finished-clause-changes c =
-    let fleet = c.args.fleet.now in
+    let fleet = c.args.self.now.fleet in
     let after = c.finish.new.self in
     let place = c.args.place in
     let at : FinishedAt fleet place c.in-Finished.finished after = finished_at fleet after place c.in-Finished.finished c.finish.result c.in-Finished.is c.finish.ensures in
@@ -33,7 +33,7 @@ returns-in-Finished-clause-changes c =
 
 pub returns-in-Finished-clause-size : goal.returns-in-Finished-clause-size
 returns-in-Finished-clause-size c =
-    let fleet = c.args.fleet.now in
+    let fleet = c.args.self.now.fleet in
     let after = c.finish.new.self in
     let place = c.args.place in
     let at : FinishedAt fleet place c.in-Finished.finished after = finished_at fleet after place c.in-Finished.finished c.finish.result c.in-Finished.is c.finish.ensures in
@@ -45,4 +45,4 @@ returns-in-Finished-clause-size c =
 
 pub returns-in-Idle-clause-changes : goal.returns-in-Idle-clause-changes
 returns-in-Idle-clause-changes c =
-    finished_idle c.args.fleet.now c.finish.new.self c.args.place c.args.number c.finish.result c.put_idle.new.said.text c.in-Idle.is c.finish.ensures c.put_idle.ensures.text
+    finished_idle c.args.self.now.fleet c.finish.new.self c.args.place c.args.number c.finish.result c.put_idle.new.said.text c.in-Idle.is c.finish.ensures c.put_idle.ensures.text
