@@ -12,7 +12,7 @@ use Rattle.canonical_closure.specs.CanonicalClosure.{canonical_closure, Controll
 use Rattle.dispatch_net.specs.Dispatchable.{DispatchLists, IsDispatchBy}
 use Rattle.dispatch_net.proofs.ExecutionLemmas.{dispatchable_length}
 use Rattle.execution_model.specs.Execution.{Setting}
-use Rattle.execution_model.specs.Feeds.{Execution, after_feed, IsFed, started, taken}
+use Rattle.execution_model.specs.Feeds.{Execution, after_feed, IsFed, taken}
 use Rattle.execution_model.specs.declared.feed_answers.Fed.{Fed}
 use Rattle.execution_model.specs.declared.feed_answers.Fed.TheVariants as fed
 use Rattle.execution_model.specs.declared.feed_answers.Why.{Why}

@@ -1,6 +1,6 @@
 -- One plan of a fleet: its network, and how far its execution is. It is executed by its shown form, so the moments of an execution are those at which
 -- completions are shown. This project's own choice.
-use Rattle.std.specs.Prelude.{◌≡◌, ◌≢◌, ◌⊎◌, ℕ, List, length, Some, None}
+use Rattle.std.specs.Prelude.{◌≡◌, ◌⊎◌, ℕ, List, length, Some, None}
 use Rattle.net_model.specs.Network.{Plan}
 use Rattle.net_model.specs.ShownForm.{shown_form}
 use Rattle.net_model.specs.declared.ids.PointId.{PointId}
