@@ -67,9 +67,9 @@ pub none_in_order : AreInOrder no_conditions
 none_in_order = record { bounds = λ i j d less inside. absurd (omega (arith, less, inside)); waits = λ i j d less inside. absurd (omega (arith, less, inside)) }
 
 -- a point's lists are taken out, thinned, and put back
-pub one_thinned : (links : List Link) (lists out : List Conditions) (order : List PointId) (point : PointId) (all : Conditions) → all ≡ conditions_at lists point → out ≡ set lists point.0 no_conditions
-    → AreOnOthers order point (conditions_at lists point).lower_bounds → set out point.0 (slim_conditions links out all) ≡ set lists point.0 (slim_conditions links lists (conditions_at lists point))
-one_thinned links lists out order point all taken left others =
+pub one_thinned : (links : List Link) (lists out : List Conditions) (points : ℕ) (point : PointId) (all : Conditions) → all ≡ conditions_at lists point → out ≡ set lists point.0 no_conditions
+    → AreOnOthers points point (conditions_at lists point).lower_bounds → set out point.0 (slim_conditions links out all) ≡ set lists point.0 (slim_conditions links lists (conditions_at lists point))
+one_thinned links lists out points point all taken left others =
     let empty = set lists point.0 no_conditions in
     let same : slim_conditions links empty (conditions_at lists point) ≡ slim_conditions links lists (conditions_at lists point) =
     same_slim links empty lists (conditions_at lists point) (λ bound among. get_or-set_other lists point.0 bound.0.0 no_conditions no_conditions (others bound among).0) in
@@ -106,11 +106,13 @@ module _ (links : List Link) (whole : List Conditions) (order : List PointId) (d
     before : (bound : PointId × ℤ) → Contains (conditions_at lists here).lower_bounds bound → (k : ℕ) × (k < i) × (get_or order k d ≡ bound.0)
     before bound among = down.descends i d bound inside (subst (λ (c : Conditions). Contains c.lower_bounds bound) own among)
 
-    pub on_others : AreOnOthers order here (conditions_at lists here).lower_bounds
+    pub on_others : AreOnOthers (length lists) here (conditions_at lists here).lower_bounds
     on_others bound among =
         let (k, less, at) = before bound among in
         let below : k < length order = omega (arith, less, inside) in
-        (λ same. down.once k i d less inside (ap (λ (p : PointId). p.0) at ∙ same), (k, below, get_or_default order k bound.0 d below ∙ at))
+        let is_point = down.points k d below in
+        let number = ap (λ (p : PointId). p.0) at in
+        (λ same. down.once k i d less inside (number ∙ same), omega (arith, is_point, number, partway.count))
 
     same_others : (bound : PointId × ℤ) → Contains (conditions_at lists here).lower_bounds bound → conditions_at lists bound.0 ≡ conditions_at whole bound.0
     same_others bound among =

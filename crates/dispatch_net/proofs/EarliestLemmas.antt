@@ -1,7 +1,6 @@
 -- Forward closed tables of derivable edges, the closure among them: a network may be dispatched by them, and the executions are the earliest schedules.
 use Rattle.closure_model.proofs.BaseLemmas.{forward_closed_has_base}
 use Rattle.closure_model.proofs.DerivableEdges.{derivable_within}
-use Rattle.closure_model.proofs.LawProofs.{law_closure_is_closed}
 use Rattle.closure_laws.proofs.ForwardLemmas.{law_closures_are_forward_tables, law_forward_tables_dispatch_earliest}
 use Rattle.dispatch_net.specs.Laws.{ForwardTablesMayDispatch, ClosuresMayDispatch, ForwardTablesExecuteEarliest}
 use Rattle.dispatch_net.proofs.ExecutionLemmas.{law_executions_are_dispatched}

@@ -70,11 +70,11 @@ below_turned n above = lt_true (pos 0 -ℤ n) (pos 0) (omega (arith, ints, above
 above_turned : (w n : ℤ) → int_lt w (pos 0) ≡ true → pos 0 -ℤ w ≡ n → pos 0 <ℤ n
 above_turned w n negative is = let below = lt_is w (pos 0) negative in subst (λ m. pos 0 <ℤ m) is (omega (arith, ints, below))
 
-gives_back : {X : Type 0} (x : X) (o : Option ℤ) (n : ℤ) → pos 0 <ℤ n → o ≡ Some (pos 0 -ℤ n) → with_moments x o ≡ Some (x, n)
+pub gives_back : {X : Type 0} (x : X) (o : Option ℤ) (n : ℤ) → pos 0 <ℤ n → o ≡ Some (pos 0 -ℤ n) → with_moments x o ≡ Some (x, n)
 gives_back {X} x o n above is =
     ap (with_moments x) is ∙ gives x (pos 0 -ℤ n) (below_turned n above) ∙ ap (λ (m : ℤ). let p : Option (X × ℤ) = Some (x, m) in p) (turned_twice n)
 
-given_back : {X : Type 0} (x : X) (o : Option ℤ) (y : X) (n : ℤ) → with_moments x o ≡ Some (y, n) → (pos 0 <ℤ n) × (o ≡ Some (pos 0 -ℤ n)) × (x ≡ y)
+pub given_back : {X : Type 0} (x : X) (o : Option ℤ) (y : X) (n : ℤ) → with_moments x o ≡ Some (y, n) → (pos 0 <ℤ n) × (o ≡ Some (pos 0 -ℤ n)) × (x ≡ y)
 given_back {X} x o y n gave =
     let its = given x o (y, n) gave in
     let moments : pos 0 -ℤ its.weight ≡ n = ap (λ (p : X × ℤ). p.1) its.is in

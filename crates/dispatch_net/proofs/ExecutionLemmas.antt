@@ -1,26 +1,18 @@
 -- The executions of the dispatchable network of a table are the schedules of lower bounds and waits of its edges.
-use Rattle.std.proofs.Common.{◌≡◌, ◌≢◌, ℕ, suc, ℤ, pos, ◌≤◌, ◌<◌, Bool, true, false, ◌⊎◌, inl, inr, List, [], ◌∷◌, length, get_or, Option, Some, None, refl, ap, sym, subst, ◌∙◌, arith}
-use Rattle.std.specs.Prelude.{int_lt, slice_get, if◌then◌else◌}
-use Rattle.std.specs.List.{All, AllPairs, AllByRecursion, Contains, IsDistinct}
-use Rattle.std.specs.Option.{option_map_or}
-use Rattle.std.proofs.lemmas.Bool.{cases_lt, true≢false, ne_eqb}
+use Rattle.std.proofs.Common.{◌≡◌, ℕ, ◌≤◌, ◌<◌, Bool, ◌⊎◌, inl, inr, List, [], ◌∷◌, length, refl, ap, sym, subst, ◌∙◌, arith}
+use Rattle.std.specs.Prelude.{if◌then◌else◌}
+use Rattle.std.specs.List.{All, Contains}
+use Rattle.std.proofs.lemmas.Bool.{cases_lt}
 use Rattle.std.proofs.lemmas.List.{get_or-map, length-map}
 use Rattle.std.proofs.lemmas.List.Elements.{All-contains, All-weaker, All-contains_itself}
 use Rattle.std.proofs.lemmas.List.FromFn.{get_or-map-range_with_len, length-map-range_with_len}
-use Rattle.std.proofs.lemmas.Option.{slice_get_within, get_or_from_slice_get}
 use Rattle.net_model.specs.Network.{Plan, IsPoint, IsExecutable}
 use Rattle.net_model.specs.declared.ids.PointId.{PointId}
-use Rattle.net_model.specs.declared.ids.LinkId.{LinkId}
 use Rattle.closure_model.specs.Keys.{Shape, all_points}
-use Rattle.closure_model.specs.Orders as table_orders
-use Rattle.closure_model.specs.Orders.{goes}
-use Rattle.closure_model.specs.Tables.{Graph, HasEdge, edges_of, IsFor, IsGraph}
+use Rattle.closure_model.specs.Tables.{Graph, edges_of, IsFor, IsGraph}
 use Rattle.closure_model.proofs.Lists.{Contains-none, Contains-head, Contains-tail, Contains-cases}
-use Rattle.closure_model.proofs.TableLemmas.{listed_edge}
 use Rattle.strategy_model.specs.Situations.{moment_in}
-use Rattle.strategy_model.specs.Plays.{same_point}
-use Rattle.strategy_model.specs.Edges.{IsNegativeOrdinary}
-use Rattle.strategy_model.specs.Dispatch.{release_moment, ComesAtOnce, IsOrder}
+use Rattle.strategy_model.specs.Dispatch.{release_moment, ComesAtOnce}
 use Rattle.strategy_model.proofs.CompletenessLemmas.{law_forward_lists_give_strategies}
 use Rattle.strategy_model.proofs.DispatchedLemmas.{law_dispatched_satisfy}
 use Rattle.strategy_model.proofs.LowerLemmas.{law_dispatched_exist}

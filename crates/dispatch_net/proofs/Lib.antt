@@ -3,11 +3,13 @@ pub mod HoldLemmas
 pub mod ExecutionLemmas
 pub mod ExactLemmas
 pub mod EarliestLemmas
+pub mod RisingLemmas
 pub mod PlaceLemmas
 pub mod EndLemmas
 pub mod SlimLists
 pub mod StayLemmas
+pub mod OutgoingLemmas
+pub mod OrderLemmas
 pub mod DownLemmas
-pub mod OthersLemmas
 pub mod RankLemmas
 pub mod ExecutedLemmas

@@ -48,9 +48,13 @@ pub record AreHeldLists (links : List Link) (ends : List (Option Link)) (lists :
 abbrev pub HaveSame : {X : Type 0} → (xs ys : List X) → Type 0
 HaveSame {X} xs ys = (test : X → Bool) → list_any test xs ≡ list_any test ys
 
--- lower bounds of a point are on other points of an order
-abbrev pub AreOnOthers : List PointId → PointId → List (PointId × ℤ) → Type 0
-AreOnOthers order point bounds = (bound : PointId × ℤ) → Contains bounds bound → (bound.0.0 ≢ point.0) × Contains order bound.0
+-- lower bounds of a point are on other points of so many
+abbrev pub AreOnOthers : ℕ → PointId → List (PointId × ℤ) → Type 0
+AreOnOthers points point bounds = (bound : PointId × ℤ) → Contains bounds bound → (bound.0.0 ≢ point.0) × (bound.0.0 < points)
+
+-- the ranks of points are their places in an order
+abbrev pub AreRanks : (order : List PointId) → (ranks : List ℕ) → Type 0
+AreRanks order ranks = (place : ℕ) (d : PointId) → place < length order → slice_index_or ranks (slice_index_or order place d).0 0 ≡ place
 
 -- an order has each point once, and the lower bounds of a point are on points before it
 pub record GoDown (order : List PointId) (lists : List Conditions) : Type 0 where
@@ -64,8 +68,8 @@ pub record GoDown (order : List PointId) (lists : List Conditions) : Type 0 wher
 abbrev pub IsSlimOrWhole : List Link → (made kept : List Conditions) → Type 0
 IsSlimOrWhole links made kept = (kept ≡ made) ⊎ (kept ≡ slimmed links made)
 
--- what is kept, with an order of the points and capacity for as many lower bounds
+-- what is kept, with an order of the points and capacity for as many lower bounds as there are points
 pub record IsKeptInOrder (links : List Link) (made kept : List Conditions) (order : List PointId) (capacity : ℕ) : Type 0 where
   pub slim_or_whole : IsSlimOrWhole links made kept
   pub down : GoDown order kept
-  pub spare_capacity : length order ≤ capacity
+  pub spare_capacity : length kept ≤ capacity

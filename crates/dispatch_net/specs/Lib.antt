@@ -1,4 +1,5 @@
 pub mod Dispatchable
+pub mod Outgoing
 pub mod OfClosure
 pub mod Execution
 pub mod Slim

@@ -1,20 +1,19 @@
 //! The dispatchable network of a table: the lower bounds and waits by which each point is executed.
 
-ghost use Rattle.std.specs.Prelude.{◌≡◌, ◌<◌, ◌++◌, [], length, IfOk, IfSome, OnOk};
-ghost use Rattle.std.specs.List.{cons_option};
-ghost use Rattle.std.specs.Option.{option_and_then};
+ghost use Rattle.std.specs.Prelude.{◌≡◌, ◌<◌, length, IfOk};
 ghost use Rattle.net_model.specs.Network.{IsPoint};
 ghost use Rattle.strategy_model.specs.Plays.{IsInstant};
-ghost use Rattle.net_model.specs.Limits.{IsWeight};
-ghost use Rattle.closure_model.specs.Tables.{IsFor, IsGraph};
-ghost use Rattle.dispatch_net.specs.Dispatchable.{MayDispatch, lower_bounds_in, waits_in};
+ghost use Rattle.closure_model.specs.Tables.{Graph, edges_of, IsFor, IsGraph};
+ghost use Rattle.dispatch_net.specs.Dispatchable.{MayDispatch, IsDispatchBy};
 ghost use Rattle.dispatch_net.specs.Dispatchable.{conditions_in, dispatchable, conditions_at};
-ghost use Rattle.dispatch_net.specs.Dispatchable.{IsDispatchBy, moments_of, with_moments};
 ghost use Rattle.dispatch_net.specs.Execution.{ExecutionSatisfies};
 ghost use Rattle.dispatch_net.specs.Held.{IsSlimOrWhole, link_ending};
+ghost use Rattle.dispatch_net.specs.Outgoing.{conditions_from};
 ghost use Rattle.dispatch_net.specs.Slim.{slimmed};
 
 use crate::held_lists::{Held, no_conditions};
+use crate::outgoing::{Outgoing, outgoing_of};
+use crate::slim_lists::ranks_of;
 use labelled_graph::Table;
 use net_model::{Items, Link, LinkId, Network, PointId, Weight};
 use std::alloc::{AllocError, Global};
@@ -40,6 +39,7 @@ pub struct Conditions {
 pub struct Dispatch {
     held: Held,
     order: Vec<PointId>,
+    ranks: Vec<u32>,
     others: Vec<(PointId, Weight)>,
     #[derive_where(skip)]
     made: Snapshot<Vec<Conditions>>,
@@ -83,12 +83,14 @@ impl Dispatch {
     {
         let lists = conditions_by(alloc, net, table)?;
         let made = Snapshot::of(&lists);
+        let others = Vec::with_capacity(alloc, lists.len())?;
         let held = Held::new(alloc, net, lists)?;
-        let others = Vec::with_capacity(alloc, order.len())?;
+        let ranks = ranks_of(alloc, order, net.points().len() as u32)?;
         let order = Vec::from_slice(alloc, order)?;
         Ok(Dispatch {
             held,
             order,
+            ranks,
             others,
             made,
         })
@@ -105,13 +107,15 @@ impl Dispatch {
         let Dispatch {
             mut held,
             order,
+            ranks,
             mut others,
             made,
         } = self;
-        held.slim(order.as_slice(), &mut others);
+        held.slim(order.as_slice(), ranks.as_slice(), &mut others);
         Dispatch {
             held,
             order,
+            ranks,
             others,
             made,
         }
@@ -159,110 +163,32 @@ fn conditions_by(alloc: Global, net: &Network, table: &Table) -> Result<Vec<Cond
     ensures made { IfOk result (λ conditions. conditions.items ≡ dispatchable net.now table.now) }
     ensures whole { IfOk result (λ conditions. length conditions.items ≡ length net.now.points) }
 {
-    let mut conditions = Vec::new(alloc);
-    for point in 0..net.points().len() as u32 {
-        conditions.push(conditions_of(alloc, net, table, PointId(point))?)?;
+    let lists = outgoing_of(alloc, table, net.points().len() as u32)?;
+    let mut conditions = Vec::with_capacity(alloc, lists.len())?;
+    for (point, outgoing) in lists.into_iter().enumerate() {
+        conditions.push(conditions_of(alloc, net, PointId(point as u32), outgoing))?;
     }
     Ok(conditions)
 }
 
-/// The lower bounds and waits by which a point is executed.
-fn conditions_of(
-    alloc: Global,
-    net: &Network,
-    table: &Table,
-    point: PointId,
-) -> Result<Conditions, AllocError>
-    requires network { IsFor net.now table.now }
-    requires point { IsPoint net.now point }
-    ensures { IfOk result (λ conditions. conditions ≡ conditions_in net.now table.now point) }
+/// The lower bounds and waits by which a point is executed, of those that the edges of a table give
+/// it.
+fn conditions_of(alloc: Global, net: &Network, point: PointId, outgoing: Outgoing) -> Conditions
+    requires { IsPoint net.now point }
+    ensures { (table : Graph) → IsGraph table
+        → outgoing ≡ conditions_from (edges_of table) point
+        → result ≡ conditions_in net.now table point }
 {
     if net.is_contingent(point) {
-        return Ok(no_conditions(alloc));
+        return no_conditions(alloc);
     }
-    let lower_bounds = lower_bounds_of(alloc, net, table, point)?;
-    let waits = waits_of(alloc, net, table, point)?;
-    Ok(Conditions {
+    let Outgoing {
+        lower_bounds,
+        mut waits,
+    } = outgoing;
+    waits.sort_unstable_by_key(|wait| wait.0.0);
+    Conditions {
         lower_bounds: Items::new(lower_bounds),
         waits: Items::new(waits),
-    })
-}
-
-/// The lower bounds that a table gives a point.
-fn lower_bounds_of(
-    alloc: Global,
-    net: &Network,
-    table: &Table,
-    point: PointId,
-) -> Result<Vec<(PointId, Weight)>, AllocError>
-    requires network { IsFor net.now table.now }
-    requires point { IsPoint net.now point }
-    ensures { IfOk result (λ bounds. bounds.items ≡ lower_bounds_in table.now point) }
-{
-    let mut bounds = Vec::new(alloc);
-    for other in 0..net.points().len() as u32 {
-        let weight = table.weight(point, PointId(other));
-        push_bound(&mut bounds, PointId(other), weight)?;
     }
-    Ok(bounds)
-}
-
-/// The waits that a table gives a point.
-fn waits_of(
-    alloc: Global,
-    net: &Network,
-    table: &Table,
-    point: PointId,
-) -> Result<Vec<(LinkId, Weight)>, AllocError>
-    requires network { IsFor net.now table.now }
-    requires point { IsPoint net.now point }
-    ensures { IfOk result (λ waits. waits.items ≡ waits_in table.now point) }
-{
-    let mut waits = Vec::new(alloc);
-    for link in 0..net.links().len() as u32 {
-        let weight = table.upper(point, LinkId(link));
-        push_wait(&mut waits, LinkId(link), weight)?;
-    }
-    Ok(waits)
-}
-
-/// The number of moments that a negative weight stands for.
-fn moments(weight: Option<Weight>) -> Option<Weight>
-    requires { IfSome weight IsWeight }
-    ensures { result ≡ option_and_then moments_of weight }
-{
-    match weight {
-        Some(weight) if weight < 0 => Some(-weight),
-        _ => None,
-    }
-}
-
-fn push_bound(
-    bounds: &mut Vec<(PointId, Weight)>,
-    point: PointId,
-    weight: Option<Weight>,
-) -> Result<(), AllocError>
-    requires { IfSome weight IsWeight }
-    ensures { OnOk result (bounds.new.items ≡ bounds.old.items ++ cons_option
-        (with_moments point weight) []) }
-{
-    if let Some(n) = moments(weight) {
-        bounds.push((point, n))?;
-    }
-    Ok(())
-}
-
-fn push_wait(
-    waits: &mut Vec<(LinkId, Weight)>,
-    link: LinkId,
-    weight: Option<Weight>,
-) -> Result<(), AllocError>
-    requires { IfSome weight IsWeight }
-    ensures { OnOk result (waits.new.items ≡ waits.old.items ++ cons_option
-        (with_moments link weight) []) }
-{
-    if let Some(n) = moments(weight) {
-        waits.push((link, n))?;
-    }
-    Ok(())
 }

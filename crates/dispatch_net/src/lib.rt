@@ -4,6 +4,7 @@
 mod dispatch;
 mod held_lists;
 pub mod laws;
+mod outgoing;
 mod slim_lists;
 
 pub use dispatch::{Conditions, Dispatch};

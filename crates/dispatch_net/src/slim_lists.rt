@@ -3,19 +3,22 @@
 //! before it.
 
 ghost use Rattle.std.specs.Prelude.{◌≡◌, ◌==◌, ◌&&◌, ◌||◌, ◌+ℤ◌, ◌<◌, ◌≤◌, ℤ, Bool, int_le, false};
-ghost use Rattle.std.specs.Prelude.{length, slice_get, slice_set, None, vec_capacity};
-ghost use Rattle.std.specs.List.{Contains, list_any, slice_index_or};
+ghost use Rattle.std.specs.Prelude.{◌≢◌, length, slice_get, slice_set, IfOk, None, vec_capacity};
+ghost use Rattle.std.specs.List.{All, AllPairs, list_any, slice_index_or};
+ghost use Rattle.std.specs.List.Sorted.{IsNonDecreasingBy};
 ghost use Rattle.std.specs.Option.{option_map_or};
 ghost use Rattle.net_model.specs.declared.ids.PointId.{PointId};
 ghost use Rattle.net_model.specs.declared.ids.LinkId.{LinkId};
 ghost use Rattle.dispatch_net.specs.Dispatchable.{conditions_at};
-ghost use Rattle.dispatch_net.specs.Held.{Rise, AreInOrder, AreOnOthers, GoDown, HaveSame};
+ghost use Rattle.dispatch_net.specs.Held.{Rise, AreInOrder, AreOnOthers, AreRanks};
+ghost use Rattle.dispatch_net.specs.Held.{GoDown, HaveSame};
 ghost use Rattle.dispatch_net.specs.Slim.{over_point, implied_over_link, over_end, over_wait};
 ghost use Rattle.dispatch_net.specs.Slim.{slim_conditions, slimmed};
 
 use crate::dispatch::Conditions;
 use crate::held_lists::Held;
 use net_model::{Items, Link, LinkId, PointId, Weight};
+use std::alloc::{AllocError, Global};
 
 /// Whether two numbers together are at least a third.
 fn reaches(n: Weight, first: Weight, second: Weight) -> bool
@@ -212,7 +215,7 @@ impl Held {
     }
 
     /// What is left of the lower bounds and waits of a point without those that others imply. The
-    /// others are all its lower bounds, in the order of the points.
+    /// others are all its lower bounds, in any order.
     fn thinned(&self, others: &[(PointId, Weight)], all: Conditions) -> Conditions
         requires { HaveSame others.now all.lower_bounds }
         ensures { result ≡ slim_conditions self.now.links self.now.lists all }
@@ -232,26 +235,33 @@ impl Held {
     }
 
     /// Keeps those lower bounds and waits of a point that no others imply.
-    fn thin(&mut self, point: PointId, order: &[PointId], others: &mut Vec<(PointId, Weight)>)
+    fn thin(&mut self, point: PointId, ranks: &[u32], others: &mut Vec<(PointId, Weight)>)
         requires within { point.0 < length self.old.lists }
-        requires on_others { AreOnOthers order.now point
+        requires on_others { AreOnOthers (length self.old.lists) point
             (conditions_at self.old.lists point).lower_bounds }
-        requires spare_capacity { length order.now ≤ vec_capacity others.old }
+        requires spare_capacity { length self.old.lists ≤ vec_capacity others.old }
         ensures links { self.new.links ≡ self.old.links }
         ensures lists { self.new.lists ≡ slice_set self.old.lists point.0
             (slim_conditions self.old.links self.old.lists (conditions_at self.old.lists point)) }
         ensures spare_capacity { vec_capacity others.new ≡ vec_capacity others.old }
     {
         let all = self.take(point);
-        put_in_order(all.lower_bounds.as_slice(), order, others);
+        put_in_order(all.lower_bounds.as_slice(), ranks, others);
         let left = self.thinned(others.as_slice(), all);
         self.put(point, left);
     }
 
     /// Keeps those lower bounds and waits of each point that no others imply. It takes no memory.
-    pub(crate) fn slim(&mut self, order: &[PointId], others: &mut Vec<(PointId, Weight)>)
+    /// The ranks are the places in the order. Which others are tried first depends on them alone,
+    /// and no clause depends on that.
+    pub(crate) fn slim(
+        &mut self,
+        order: &[PointId],
+        ranks: &[u32],
+        others: &mut Vec<(PointId, Weight)>,
+    )
         requires down { GoDown order.now self.old.lists }
-        requires spare_capacity { length order.now ≤ vec_capacity others.old }
+        requires spare_capacity { length self.old.lists ≤ vec_capacity others.old }
         ensures links { self.new.links ≡ self.old.links }
         ensures lists { self.new.lists ≡ slimmed self.old.links self.old.lists }
         ensures spare_capacity { vec_capacity others.new ≡ vec_capacity others.old }
@@ -259,28 +269,49 @@ impl Held {
         let mut left = order.len();
         while left > 0 {
             left -= 1;
-            self.thin(order[left], order, others);
+            self.thin(order[left], ranks, others);
         }
     }
 }
 
-/// Puts the lower bounds of a point in the order of the points.
-fn put_in_order(
-    bounds: &[(PointId, Weight)],
+/// The rank of each of so many points: its place in an order of them.
+pub(crate) fn ranks_of(
+    alloc: Global,
     order: &[PointId],
-    ordered: &mut Vec<(PointId, Weight)>,
-)
-    requires rise { Rise (λ (bound : PointId × ℤ). bound.0.0) bounds.now }
-    requires among { (bound : PointId × ℤ) → Contains bounds.now bound
-        → Contains order.now bound.0 }
-    requires spare_capacity { length order.now ≤ vec_capacity ordered.old }
+    points: u32,
+) -> Result<Vec<u32>, AllocError>
+    requires points { All (λ point. point.0 < points) order.now }
+    requires once { AllPairs (λ p q. p.0 ≢ q.0) order.now }
+    ensures { IfOk result (λ ranks. AreRanks order.now ranks.items) }
+{
+    let mut ranks = vec![in alloc; 0; points as usize]?;
+    for (rank, point) in order.iter().enumerate() {
+        ranks[point.0 as usize] = rank as u32;
+    }
+    Ok(ranks)
+}
+
+/// The rank of a point.
+fn rank_of(ranks: &[u32], point: PointId) -> u32
+    ensures { result ≡ slice_index_or ranks.now point.0 0 }
+{
+    match ranks.get(point.0 as usize) {
+        Some(rank) => *rank,
+        None => 0,
+    }
+}
+
+/// Puts the lower bounds of a point in the order of the ranks of their points. It takes no memory.
+fn put_in_order(bounds: &[(PointId, Weight)], ranks: &[u32], ordered: &mut Vec<(PointId, Weight)>)
+    requires { length bounds.now ≤ vec_capacity ordered.old }
     ensures same { HaveSame ordered.new.items bounds.now }
+    ensures in_order { IsNonDecreasingBy
+        (λ (bound : PointId × ℤ). slice_index_or ranks.now bound.0.0 0) ordered.new.items }
     ensures spare_capacity { vec_capacity ordered.new ≡ vec_capacity ordered.old }
 {
     ordered.clear();
-    for point in order {
-        if let Some(moments) = bound_on(bounds, *point) {
-            ordered.push_reserved((*point, moments));
-        }
+    for bound in bounds {
+        ordered.push_reserved(*bound);
     }
+    ordered.sort_unstable_by_key(|bound| rank_of(ranks, bound.0));
 }

@@ -1,10 +1,8 @@
-use Rattle.std.proofs.Common.{◌≡◌, ◌≤◌, vec_len, vec_capacity}
-use Rattle.dispatch_net.proofs.OthersLemmas.{IsOrderedTo}
+use Rattle.std.proofs.Common.{◌≡◌, take, vec_capacity}
 use Rattle.dispatch_net.proofs.slim_lists.put_in_order.Given as goal
 
-abbrev pub invariant-loop-point : goal.invariant-loop-point
-invariant-loop-point l = record {
-  ordered : IsOrderedTo l.bounds l.order l.ordered.items l.point-index;
-  few : vec_len l.ordered ≤ l.point-index;
+abbrev pub invariant-loop-bound : goal.invariant-loop-bound
+invariant-loop-bound l = record {
+  copied : l.ordered.items ≡ take l.bound-index l.bounds;
   spare_capacity : vec_capacity l.ordered ≡ vec_capacity l.fn.ordered;
 }

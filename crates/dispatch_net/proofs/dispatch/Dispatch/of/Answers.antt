@@ -6,11 +6,19 @@ use Rattle.dispatch_net.specs.Execution.{ExecutionSatisfies}
 use Rattle.dispatch_net.specs.Held.{HeldLists, AreInOrder, GoDown}
 use Rattle.dispatch_net.proofs.DownLemmas.{made_go_down}
 use Rattle.dispatch_net.proofs.ExactLemmas.{in_order}
-use Rattle.dispatch_net.proofs.ExecutionLemmas.{law_executions_satisfy}
+use Rattle.dispatch_net.proofs.ExecutionLemmas.{law_executions_satisfy, point_count}
 use Rattle.dispatch_net.proofs.dispatch.Dispatch.of.Goals as goal
 
 pub new-requires-clause-in_order : goal.new-requires-clause-in_order
 new-requires-clause-in_order c = subst (All AreInOrder) (sym c.in_ok-lists.ensures.made) (in_order c.args.net.now c.args.table.now)
+
+pub ranks_of-requires : goal.ranks_of-requires
+ranks_of-requires c =
+    let count = point_count c.args.net.now c.args.table.now c.requires.may.for_network in
+    record {
+      points = λ k d inside. let at = c.requires.may.ordered.points k d inside in omega (arith, at, count, ap length c.points.ensures.points);
+      once = c.requires.may.ordered.once;
+    }
 
 pub invariant_of-result : goal.invariant_of-result
 invariant_of-result c =
@@ -21,7 +29,7 @@ invariant_of-result c =
       slim_or_whole = inl (kept ∙ sym made);
       down = subst (λ (order : List PointId). GoDown order c.in_ok-held.held.lists) (sym c.in_ok-order.ensures.items)
           (subst (GoDown c.args.order.now) (sym (kept ∙ c.in_ok-lists.ensures.made)) (made_go_down c.args.net.now c.args.table.now c.args.order.now c.requires.may.for_network c.requires.may.ordered));
-      spare_capacity = let same = ap (λ (order : List PointId). length order) c.in_ok-order.ensures.items in omega (arith, c.in_ok-others.ensures.capacity, same);
+      spare_capacity = let same = ap (λ (ls : List Conditions). length ls) kept in omega (arith, c.in_ok-others.ensures.capacity, c.in_ok-lists.lists.ok.0, same);
     }
 
 pub returns-clause-executed : goal.returns-clause-executed

@@ -1,6 +1,9 @@
-use Rattle.std.proofs.Common.{◌∙◌, ◌≤◌, ℕ, List, length, sym, subst, inr}
+use Rattle.std.proofs.Common.{◌∙◌, List, length, ap, arith, sym, subst, inr}
+use Rattle.std.proofs.lemmas.List.{length-map}
 use Rattle.net_model.specs.declared.part.Link.{Link}
+use Rattle.dispatch_net.specs.declared.dispatch.Conditions.{Conditions}
 use Rattle.dispatch_net.specs.Held.{IsSlimOrWhole, GoDown}
+use Rattle.dispatch_net.specs.Slim.{slim_conditions}
 use Rattle.dispatch_net.proofs.DownLemmas.{slim_go_down}
 use Rattle.dispatch_net.proofs.StayLemmas.{slim_again}
 use Rattle.dispatch_net.proofs.dispatch.Dispatch.slim.Goals as goal
@@ -14,5 +17,7 @@ invariant_of-result c =
       slim_or_whole = subst (λ (links : List Link). IsSlimOrWhole links made c.slim.new.self.lists) (sym c.slim.ensures.links)
           (inr (c.slim.ensures.lists ∙ slim_again held.links made held.lists c.self.invariant.slim_or_whole));
       down = subst (GoDown order) (sym c.slim.ensures.lists) (slim_go_down held.links held.lists order c.self.invariant.down);
-      spare_capacity = subst (λ (n : ℕ). length order ≤ n) (sym c.slim.ensures.spare_capacity) c.self.invariant.spare_capacity;
+      spare_capacity =
+          let same = ap (λ (lists : List Conditions). length lists) c.slim.ensures.lists ∙ length-map held.lists (slim_conditions held.links held.lists) in
+          omega (arith, same, c.slim.ensures.spare_capacity, c.self.invariant.spare_capacity);
     }

@@ -28,7 +28,7 @@ thin-requires c =
     record {
       within = within whole.links whole.lists order c.requires.down now.lists i none inside partway;
       on_others = on_others whole.links whole.lists order c.requires.down now.lists i none inside partway;
-      spare_capacity = omega (arith, c.requires.spare_capacity, c.loop-left.invariant.spare_capacity);
+      spare_capacity = omega (arith, c.requires.spare_capacity, c.loop-left.invariant.spare_capacity, partway.count);
     }
 
 pub loop-left-preserved : goal.loop-left-preserved

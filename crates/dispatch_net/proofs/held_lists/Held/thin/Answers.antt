@@ -5,18 +5,20 @@ use Rattle.net_model.specs.declared.ids.PointId.{PointId}
 use Rattle.net_model.specs.declared.part.Link.{Link}
 use Rattle.dispatch_net.specs.declared.dispatch.Conditions.{Conditions}
 use Rattle.dispatch_net.specs.Dispatchable.{no_conditions}
-use Rattle.dispatch_net.specs.Held.{Rise, AreInOrder}
+use Rattle.dispatch_net.specs.Held.{AreInOrder}
 use Rattle.dispatch_net.specs.Slim.{slim_conditions}
 use Rattle.dispatch_net.proofs.DownLemmas.{slim_in_order, one_thinned}
+use Rattle.dispatch_net.proofs.OrderLemmas.{few_bounds}
 use Rattle.dispatch_net.proofs.held_lists.Held.thin.Goals as goal
 
-pub put_in_order-requires-clause-rise : goal.put_in_order-requires-clause-rise
-put_in_order-requires-clause-rise c = subst (λ (bounds : List (PointId × ℤ)). Rise (λ (bound : PointId × ℤ). bound.0.0) bounds) (sym c.as_slice.ensures) c.take-all.ensures.in_order.bounds
-
-pub put_in_order-requires-clause-among : goal.put_in_order-requires-clause-among
-put_in_order-requires-clause-among c =
-    λ bound among.
-    (c.requires.on_others bound (subst (λ (bounds : List (PointId × ℤ)). Contains bounds bound) (c.as_slice.ensures ∙ ap (λ (all : Conditions). all.lower_bounds) c.take-all.ensures.taken) among)).1
+pub put_in_order-requires : goal.put_in_order-requires
+put_in_order-requires c =
+    let held = c.args.self.now in
+    let taken = ap (λ (all : Conditions). all.lower_bounds) c.take-all.ensures.taken in
+    let few = few_bounds (length held.lists) c.args.point c.take-all.result.lower_bounds c.take-all.ensures.in_order.bounds
+    (λ bound among. c.requires.on_others bound (subst (λ (bounds : List (PointId × ℤ)). Contains bounds bound) taken among)) in
+    let same = ap (λ (bounds : List (PointId × ℤ)). length bounds) c.as_slice.ensures in
+    omega (arith, few, same, c.requires.spare_capacity)
 
 pub thinned-left-requires : goal.thinned-left-requires
 thinned-left-requires c =
@@ -38,4 +40,4 @@ returns-clause-lists c =
     let out = c.take-all.new.self in
     c.put.ensures.lists
     ∙ (ap (set out.lists c.args.point.0) (c.thinned-left.ensures ∙ ap (λ (links : List Link). slim_conditions links out.lists c.take-all.result) c.take-all.ensures.links)
-    ∙ one_thinned held.links held.lists out.lists c.args.order.now c.args.point c.take-all.result c.take-all.ensures.taken c.take-all.ensures.left c.requires.on_others)
+    ∙ one_thinned held.links held.lists out.lists (length held.lists) c.args.point c.take-all.result c.take-all.ensures.taken c.take-all.ensures.left c.requires.on_others)
