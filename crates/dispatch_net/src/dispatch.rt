@@ -186,6 +186,7 @@ fn conditions_of(alloc: Global, net: &Network, point: PointId, outgoing: Outgoin
         lower_bounds,
         mut waits,
     } = outgoing;
+    // They come in the order of the points in which their links begin.
     waits.sort_unstable_by_key(|wait| wait.0.0);
     Conditions {
         lower_bounds: Items::new(lower_bounds),
