@@ -2,6 +2,7 @@
 
 ghost use Rattle.std.specs.Prelude.{◌≡◌, ◌<◌, ◌==◌, find, length, slice_set, IfOk};
 ghost use Rattle.std.specs.List.{All};
+ghost use Rattle.net_model.specs.Network.{IsPoint};
 ghost use Rattle.net_model.specs.declared.part.Link.{Link};
 ghost use Rattle.dispatch_net.specs.Dispatchable.{conditions_at, no_conditions};
 ghost use Rattle.dispatch_net.specs.Held.{AreInOrder, AreEnds, link_ending};
@@ -45,7 +46,7 @@ impl Held {
           lists = lists.items;
         }) }
     {
-        let ends = ends_of(alloc, net.links(), net.points().len() as u32)?;
+        let ends = ends_of(alloc, net)?;
         let links = Vec::from_slice(alloc, net.links())?;
         Ok(Held { links, ends, lists })
     }
@@ -107,24 +108,22 @@ pub(crate) fn no_conditions(alloc: Global) -> Conditions
 }
 
 /// The link that ends in a point.
-fn link_to(links: &[Link], point: PointId) -> Option<Link>
-    ensures { result ≡ link_ending links.now point }
+fn link_to(net: &Network, point: PointId) -> Option<Link>
+    requires { IsPoint net.now point }
+    ensures { result ≡ link_ending net.now.links point }
 {
-    for link in links {
-        if link.to.0 == point.0 {
-            return Some(*link);
-        }
-    }
-    None
+    let link = net.activation(point)?;
+    Some(net.links()[link.0 as usize])
 }
 
-/// For each of so many points the link that ends in it.
-fn ends_of(alloc: Global, links: &[Link], points: u32) -> Result<Vec<Option<Link>>, AllocError>
-    ensures { IfOk result (λ ends. AreEnds links.now points ends.items) }
+/// For each of the points of a network the link that ends in it.
+fn ends_of(alloc: Global, net: &Network) -> Result<Vec<Option<Link>>, AllocError>
+    ensures { IfOk result (λ ends. AreEnds net.now.links (length net.now.points) ends.items) }
 {
-    let mut ends = Vec::new(alloc);
-    for point in 0..points {
-        ends.push(link_to(links, PointId(point)))?;
+    let count = net.points().len() as u32;
+    let mut ends = Vec::with_capacity(alloc, count as usize)?;
+    for point in 0..count {
+        ends.push(link_to(net, PointId(point)))?;
     }
     Ok(ends)
 }
