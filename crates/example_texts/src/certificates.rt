@@ -1,7 +1,7 @@
 //! Certificates: lines that are read alone, and whole texts.
 
+use crate::rows::{cells, see_bytes, see_text, with_line_ends};
 use cert_format::{CertText, print_certificate, read_cert_line, read_certificate};
-use net_model::WordFault;
 use std::alloc::{AllocError, Global};
 use std::process::Abort;
 use std::test::Fail;
@@ -91,7 +91,7 @@ certificate 1|refutation|link C C A -8|up 1 3 D A C -7|low C 2 A D 2|cross end 1
 fn line_answer(alloc: Global, line: &[u8]) -> Result<String, AllocError> {
     match read_cert_line(line) {
         Ok(said) => String::from_str(alloc, line_word(&said)),
-        Err(fault) => fault_word(alloc, fault),
+        Err(fault) => fault.to_string(alloc),
     }
 }
 
@@ -109,10 +109,6 @@ fn line_word(said: &CertText) -> &'static str {
     }
 }
 
-fn fault_word(alloc: Global, fault: WordFault) -> Result<String, AllocError> {
-    fault.to_string(alloc)
-}
-
 /// What is printed of a text, or its fault.
 fn text_answer(alloc: Global, text: &[u8]) -> Result<Vec<u8>, AllocError> {
     if text.len() > 1000 {
@@ -120,35 +116,33 @@ fn text_answer(alloc: Global, text: &[u8]) -> Result<Vec<u8>, AllocError> {
     }
     match read_certificate(alloc, text) {
         Ok(certificate) => print_certificate(alloc, &certificate),
-        Err(fault) => Vec::from_slice(alloc, fault.to_string(alloc)?.as_bytes()),
+        Err(fault) => Ok(fault.to_string(alloc)?.into_bytes()),
     }
 }
 
-/// The bytes of a row, with line ends.
-fn with_line_ends(alloc: Global, row: &str) -> Result<Vec<u8>, AllocError> {
-    row.bytes()
-        .map(|byte| if byte == b'|' { b'\n' } else { byte })
-        .collect(alloc)
+/// What is printed of the text of a cell, or its fault.
+fn cell_answer(alloc: Global, cell: &str) -> Result<Vec<u8>, AllocError> {
+    let text = with_line_ends(alloc, cell)?;
+    text_answer(alloc, text.as_slice())
 }
 
-fn try_line<R: Abort>(rt: &R, alloc: Global, row: &str) -> Result<(), AllocError> {
-    if let Some((line, wanted)) = row.split_once(" => ") {
-        let answer = line_answer(alloc, line.as_bytes())?;
-        assert!(rt; answer.as_str() == wanted, "{row}");
-    } else {
-        assert!(rt; false, "{row}");
-    }
+fn try_line<R: Abort>(rt: &R, alloc: Global, row: &str) -> Result<(), Fail> {
+    let (line, expected) = cells(row).ok_or("a row")?;
+    let answer = line_answer(alloc, line.as_bytes())?;
+    see_text(rt, answer.as_str(), expected, row);
     Ok(())
 }
 
-fn try_text<R: Abort>(rt: &R, alloc: Global, row: &str) -> Result<(), AllocError> {
-    if let Some((text, wanted)) = row.split_once(" => ") {
-        let answer = text_answer(alloc, with_line_ends(alloc, text)?.as_slice())?;
-        let same = answer.as_slice() == with_line_ends(alloc, wanted)?.as_slice();
-        assert!(rt; same, "{row}");
-    } else {
-        assert!(rt; false, "{row}");
-    }
+fn try_text<R: Abort>(rt: &R, alloc: Global, row: &str) -> Result<(), Fail> {
+    let (text, expected) = cells(row).ok_or("a row")?;
+    let expected = with_line_ends(alloc, expected)?;
+    try_cell(rt, alloc, text, expected.as_slice())
+}
+
+/// The text of a cell has this answer.
+fn try_cell<R: Abort>(rt: &R, alloc: Global, cell: &str, expected: &[u8]) -> Result<(), Fail> {
+    let answer = cell_answer(alloc, cell)?;
+    see_bytes(rt, answer.as_slice(), expected, cell);
     Ok(())
 }
 

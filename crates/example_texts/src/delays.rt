@@ -3,8 +3,8 @@
 ghost use Rattle.net_model.specs.Network.{HasPlanNumbers};
 
 use crate::edits::{edit_of, network_text};
-use crate::rows::{cells, network};
-use net_model::{BoundId, LinkId, MOST_DELAY, Network, Weight, bound_edge};
+use crate::rows::{cells, network, see_text};
+use net_model::{BoundId, Edge, LinkId, MOST_DELAY, Network, Weight, bound_edge};
 use std::alloc::{AllocError, Global};
 use std::process::Abort;
 use std::test::Fail;
@@ -51,58 +51,90 @@ fn delayed(net: Network, delay: Weight) -> Option<Network>
     }
 }
 
-/// The edges of bounds and the links that are read one by one are those of the shown form.
-fn read_as_shown(rt: &impl Abort, net: &Network, shown: &Network) {
+/// The edge of a bound, by its place.
+fn edge_of(net: &Network, place: usize) -> Option<Edge> {
+    Some(bound_edge(net.bounds().get(place)?))
+}
+
+/// The edges of bounds that are read one by one are those of the shown form.
+fn see_bounds(rt: &impl Abort, net: &Network, shown: &Network) {
     for k in 0..net.bounds().len() {
         let edge = net.shown_bound(BoundId(k as u32));
-        assert_eq!(rt;
-            shown.bounds().get(k).map(|bound| bound_edge(bound)),
-            Some(edge)
-        );
+        assert_eq!(rt; edge_of(shown, k), Some(edge));
     }
+}
+
+/// The links that are read one by one are those of the shown form.
+fn see_links(rt: &impl Abort, net: &Network, shown: &Network) {
     for k in 0..net.links().len() {
         let link = net.shown_link(LinkId(k as u32));
         assert_eq!(rt; shown.links().get(k).copied(), Some(link));
     }
 }
 
+fn see_delay(rt: &impl Abort, net: &Network, delay: Weight) {
+    assert_eq!(rt; net.delay(), delay);
+}
+
 /// The points, bounds and links of the shown form.
 fn form_text(rt: &impl Abort, alloc: Global, net: &Network) -> Result<String, AllocError> {
     let shown = net.shown(alloc)?;
-    assert_eq!(rt; shown.delay(), 0);
-    read_as_shown(rt, net, &shown);
+    see_delay(rt, &shown, 0);
+    see_bounds(rt, net, &shown);
+    see_links(rt, net, &shown);
     network_text(alloc, &shown)
 }
 
 fn result_text(rt: &impl Abort, alloc: Global, delay: Weight, plan: &str) -> Result<String, Fail> {
     match delayed(network(alloc, plan)?, delay) {
         Some(net) => {
-            assert_eq!(rt; net.delay(), delay);
+            see_delay(rt, &net, delay);
             Ok(form_text(rt, alloc, &net)?)
         }
         None => Ok(String::from_str(alloc, "refused")?),
     }
 }
 
+fn try_shown(rt: &impl Abort, alloc: Global, row: &str) -> Result<(), Fail> {
+    let (input, wanted) = cells(row).ok_or("a row")?;
+    let (delay, plan) = input.split_once(' ').ok_or("a delay")?;
+    let result_text = result_text(rt, alloc, delay.parse()?, plan)?;
+    see_text(rt, result_text.as_str(), wanted, input);
+    Ok(())
+}
+
 #[test]
 fn shown_forms(rt: HostRuntime) -> Result<(), Fail> {
     for row in SHOWN.split('\n') {
-        let (input, wanted) = cells(row).ok_or("a row")?;
-        let (delay, plan) = input.split_once(' ').ok_or("a delay")?;
-        let result_text = result_text(&rt, rt.alloc(), delay.parse()?, plan)?;
-        assert_eq!(rt; result_text.as_str(), wanted, "{input}");
+        try_shown(&rt, rt.alloc(), row)?;
     }
+    Ok(())
+}
+
+fn try_edit(rt: &impl Abort, alloc: Global, net: &Network, row: &str) -> Result<(), Fail> {
+    let (line, wanted) = cells(row).ok_or("a row")?;
+    let edit = edit_of(line).ok_or("an edit")?;
+    let new = net.apply(alloc, &edit)?;
+    try_edited(rt, alloc, &new, line, wanted)
+}
+
+/// What an edit made has the delay, and its shown form the points, bounds and links.
+fn try_edited(
+    rt: &impl Abort,
+    alloc: Global,
+    new: &Network,
+    line: &str,
+    wanted: &str,
+) -> Result<(), Fail> {
+    assert_eq!(rt; new.delay(), 3, "{line}");
+    let result_text = form_text(rt, alloc, new)?;
+    see_text(rt, result_text.as_str(), wanted, line);
     Ok(())
 }
 
 fn try_edits(rt: &impl Abort, alloc: Global, net: &Network) -> Result<(), Fail> {
     for row in EDITS.split('\n') {
-        let (line, wanted) = cells(row).ok_or("a row")?;
-        let edit = edit_of(line).ok_or("an edit")?;
-        let new = net.apply(alloc, &edit)?;
-        assert_eq!(rt; new.delay(), 3, "{line}");
-        let result_text = form_text(rt, alloc, &new)?;
-        assert_eq!(rt; result_text.as_str(), wanted, "{line}");
+        try_edit(rt, alloc, net, row)?;
     }
     Ok(())
 }
@@ -136,11 +168,15 @@ fn shown_durations(alloc: Global, net: &Network) -> Result<Vec<u64>, AllocError>
     net.shown_situation(alloc, &[2, 1])
 }
 
+fn durations_in(alloc: Global, plan: &str) -> Result<Vec<u64>, Fail> {
+    let net = delayed(network(alloc, plan)?, 3).ok_or("a delay")?;
+    Ok(shown_durations(alloc, &net)?)
+}
+
 #[test]
 fn shown_situations(rt: HostRuntime) -> Result<(), Fail> {
     for (plan, wanted) in SITUATIONS {
-        let net = delayed(network(rt.alloc(), plan)?, 3).ok_or("a delay")?;
-        let durations = shown_durations(rt.alloc(), &net)?;
+        let durations = durations_in(rt.alloc(), plan)?;
         assert_eq!(rt; durations.as_slice(), wanted.as_slice(), "{plan}");
     }
     Ok(())

@@ -3,11 +3,12 @@
 ghost use Rattle.std.specs.Prelude.{◌<◌, ◌≤ℤ◌, ◌^◌, pos, length};
 ghost use Rattle.net_model.specs.Limits.{most_delay};
 
-use crate::rows::{cells, network};
+use crate::rows::{cells, exchange, network, see_bytes};
 use net_model::Network;
 use plan_format::print_plan;
 use plan_json::{JsonPlan, from_json, to_json};
 use std::alloc::{AllocError, Global};
+use std::process::Abort;
 use std::test::Fail;
 
 /// Documents, and the plan text of the network that each declares, or its fault.
@@ -129,20 +130,21 @@ fn built(alloc: Global, plan: &JsonPlan) -> Result<Vec<u8>, AllocError>
 
 /// A text with `|` for each line end.
 fn in_one_line(mut text: Vec<u8>) -> Vec<u8> {
-    for byte in text.iter_mut() {
-        if *byte == b'\n' {
-            *byte = b'|';
-        }
-    }
+    exchange(&mut text, b'\n', b'|');
     text
+}
+
+fn try_document(rt: &impl Abort, alloc: Global, row: &str) -> Result<(), Fail> {
+    let (document, answer) = cells(row).ok_or("a row")?;
+    let said = result_text(alloc, document.as_bytes())?;
+    see_bytes(rt, said.as_slice(), answer.as_bytes(), document);
+    Ok(())
 }
 
 #[test]
 fn documents(rt: HostRuntime) -> Result<(), Fail> {
     for row in DOCUMENTS.trim_start().split('\n') {
-        let (document, answer) = cells(row).ok_or("a row")?;
-        let said = result_text(rt.alloc(), document.as_bytes())?;
-        assert_eq!(rt; said.as_slice(), answer.as_bytes(), "{document}");
+        try_document(&rt, rt.alloc(), row)?;
     }
     Ok(())
 }
@@ -159,19 +161,20 @@ fn nested(alloc: Global, depth: usize) -> Result<Vec<u8>, AllocError> {
     Ok(text)
 }
 
+fn try_nested(rt: &impl Abort, alloc: Global, depth: usize, answer: &[u8]) -> Result<(), Fail> {
+    let text = nested(alloc, depth)?;
+    let said = result_text(alloc, &text)?;
+    assert_eq!(rt; said.as_slice(), answer, "{depth}");
+    Ok(())
+}
+
 /// What nests deeper than 127, and what is no UTF-8, has no reading.
 #[test]
 fn no_reading(rt: HostRuntime) -> Result<(), Fail> {
-    for (depth, answer) in [
-        (127, b"shape top 0".as_slice()),
-        (128, b"not-json".as_slice()),
-    ] {
-        let text = nested(rt.alloc(), depth)?;
-        let said = result_text(rt.alloc(), &text)?;
-        assert_eq!(rt; said.as_slice(), answer, "{depth}");
-    }
+    try_nested(&rt, rt.alloc(), 127, b"shape top 0")?;
+    try_nested(&rt, rt.alloc(), 128, b"not-json")?;
     let said = result_text(rt.alloc(), b"{\"stnu\":1,\"points\":[\"\xff\"]}")?;
-    assert_eq!(rt; said.as_slice(), b"not-json".as_slice());
+    see_bytes(&rt, said.as_slice(), b"not-json", "no UTF-8");
     Ok(())
 }
 
@@ -187,12 +190,17 @@ fn written(alloc: Global, plan: &str) -> Result<Vec<u8>, Fail> {
     Ok(to_json(alloc, &net)?)
 }
 
+fn try_written(rt: &impl Abort, alloc: Global, row: &str) -> Result<(), Fail> {
+    let (plan, answer) = cells(row).ok_or("a row")?;
+    let document = in_one_line(written(alloc, plan)?);
+    see_bytes(rt, document.as_slice(), answer.as_bytes(), plan);
+    Ok(())
+}
+
 #[test]
 fn documents_of_networks(rt: HostRuntime) -> Result<(), Fail> {
     for row in WRITTEN.split('\n') {
-        let (plan, answer) = cells(row).ok_or("a row")?;
-        let document = in_one_line(written(rt.alloc(), plan)?);
-        assert_eq!(rt; document.as_slice(), answer.as_bytes(), "{plan}");
+        try_written(&rt, rt.alloc(), row)?;
     }
     Ok(())
 }

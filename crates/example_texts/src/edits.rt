@@ -1,6 +1,6 @@
 //! Edits of a network, and what each makes of it.
 
-use crate::rows::{cells, network};
+use crate::rows::{cells, network, see_text};
 use edit_script::{Step, read_step};
 use net_model::{Bound, Edit, EditFault, Link, Name, NameFault, Network, User};
 use std::alloc::{AllocError, Global};
@@ -43,66 +43,68 @@ set link C 0 3 => bad-interval
 set link C 5 3 => bad-interval";
 
 /// The names of points, with a blank between two.
-fn push_points(alloc: Global, text: &mut String, points: &[Name]) -> Result<(), AllocError> {
+fn push_points(text: &mut String, points: &[Name]) -> Result<(), AllocError> {
     let mut gap = "";
     for name in points {
-        let one = format!(in alloc; "{gap}{name}")?;
-        text.push_str(one.as_str())?;
+        write!(text, "{gap}{name}")?;
         gap = " ";
     }
     Ok(())
 }
 
-fn push_bounds(alloc: Global, text: &mut String, bounds: &[Bound]) -> Result<(), AllocError> {
+fn push_bounds(text: &mut String, bounds: &[Bound]) -> Result<(), AllocError> {
     let mut gap = "; ";
     for b in bounds {
-        let one = format!(in alloc; "{gap}{} {} {} {}", b.name, b.from.0, b.to.0, b.most)?;
-        text.push_str(one.as_str())?;
+        write!(text, "{gap}{} {} {} {}", b.name, b.from.0, b.to.0, b.most)?;
         gap = ", ";
     }
     Ok(())
 }
 
-fn push_links(alloc: Global, text: &mut String, links: &[Link]) -> Result<(), AllocError> {
+fn push_links(text: &mut String, links: &[Link]) -> Result<(), AllocError> {
     text.push_str("; ")?;
     let mut gap = "";
     for l in links {
-        let one = format!(in alloc; "{gap}{} {} {} {}", l.from.0, l.low, l.high, l.to.0)?;
-        text.push_str(one.as_str())?;
+        write!(text, "{gap}{} {} {} {}", l.from.0, l.low, l.high, l.to.0)?;
         gap = ", ";
     }
     Ok(())
 }
 
-fn put_network(alloc: Global, text: &mut String, net: &Network) -> Result<(), AllocError> {
-    push_points(alloc, text, net.points())?;
-    push_bounds(alloc, text, net.bounds())?;
-    push_links(alloc, text, net.links())
+/// The points, bounds and links of a network, each list after `; `.
+fn push_network(text: &mut String, net: &Network) -> Result<(), AllocError> {
+    push_points(text, net.points())?;
+    push_bounds(text, net.bounds())?;
+    push_links(text, net.links())
 }
 
-/// The points, bounds and links of a network, each list after `; `.
+/// The points, bounds and links of a network as a text.
 pub fn network_text(alloc: Global, net: &Network) -> Result<String, AllocError> {
     let mut text = String::new(alloc);
-    match put_network(alloc, &mut text, net) {
-        Ok(()) => Ok(text),
-        Err(error) => Err(error),
-    }
+    push_network(&mut text, net)?;
+    Ok(text)
 }
 
-fn fault_text(alloc: Global, fault: EditFault) -> Result<String, AllocError> {
+fn push_fault(text: &mut String, fault: EditFault) -> Result<(), AllocError> {
+    write!(text, "{fault}")?;
     match fault {
-        EditFault::StillUsed(User::Bound(id)) => format!(in alloc; "{fault} bound {}", id.0),
-        EditFault::StillUsed(User::Link(id)) => format!(in alloc; "{fault} link {}", id.0),
-        EditFault::Limit(which) => format!(in alloc; "{fault} {}", which.word()),
-        _ => fault.to_string(alloc),
+        EditFault::StillUsed(User::Bound(id)) => write!(text, " bound {}", id.0),
+        EditFault::StillUsed(User::Link(id)) => write!(text, " link {}", id.0),
+        EditFault::Limit(which) => write!(text, " {}", which.word()),
+        _ => Ok(()),
     }
 }
 
 /// What an edit makes of a network, or why it is refused.
-fn answer(alloc: Global, net: &Network, edit: &Edit) -> Result<String, AllocError> {
+fn push_answer(
+    alloc: Global,
+    net: &Network,
+    edit: &Edit,
+    text: &mut String,
+) -> Result<(), AllocError> {
     match net.apply(alloc, edit) {
-        Ok(new) => network_text(alloc, &new),
-        Err(fault) => fault_text(alloc, fault),
+        Ok(new) => push_network(text, &new),
+        Err(fault) => push_fault(text, fault),
     }
 }
 
@@ -114,12 +116,18 @@ pub fn edit_of(line: &str) -> Option<Edit> {
     }
 }
 
+fn try_edit(rt: &impl Abort, alloc: Global, net: &Network, row: &str) -> Result<(), Fail> {
+    let (line, wanted) = cells(row).ok_or("a row")?;
+    let edit = edit_of(line).ok_or("an edit")?;
+    let mut result_text = String::new(alloc);
+    push_answer(alloc, net, &edit, &mut result_text)?;
+    see_text(rt, result_text.as_str(), wanted, line);
+    Ok(())
+}
+
 fn try_edits(rt: &impl Abort, alloc: Global, net: &Network) -> Result<(), Fail> {
     for row in EDITS.split('\n') {
-        let (line, wanted) = cells(row).ok_or("a row")?;
-        let edit = edit_of(line).ok_or("an edit")?;
-        let result_text = answer(alloc, net, &edit)?;
-        assert_eq!(rt; result_text.as_str(), wanted, "{line}");
+        try_edit(rt, alloc, net, row)?;
     }
     Ok(())
 }
@@ -143,10 +151,16 @@ fn too_great() -> Result<[Edit; 4], NameFault> {
     ])
 }
 
+fn try_number(rt: &impl Abort, alloc: Global, net: &Network, edit: &Edit) -> Result<(), Fail> {
+    let mut result_text = String::new(alloc);
+    push_answer(alloc, net, edit, &mut result_text)?;
+    assert_eq!(rt; result_text.as_str(), "limit number", "{edit:?}");
+    Ok(())
+}
+
 fn try_numbers(rt: &impl Abort, alloc: Global, net: &Network) -> Result<(), Fail> {
     for edit in too_great()? {
-        let result_text = answer(alloc, net, &edit)?;
-        assert_eq!(rt; result_text.as_str(), "limit number", "{edit:?}");
+        try_number(rt, alloc, net, &edit)?;
     }
     Ok(())
 }

@@ -1,8 +1,8 @@
 //! Lines of events, and the completions that a reader keeps of them.
 
-use crate::rows::{cells, network};
+use crate::rows::{cells, network, see_text};
 use event_stream::{Event, EventReader, MOST_LINE};
-use net_model::{Network, PointId};
+use net_model::{FormatKind, Network, PointId};
 use std::alloc::{AllocError, Global};
 use std::process::Abort;
 use std::test::Fail;
@@ -53,36 +53,58 @@ at 0 abcdefghijklmnopqrstuvwxyzabcdefg => bad-name [0, 0, 0, 0]
 at 0 => at 0 []";
 
 /// The answer to a line, and what is then kept.
-fn answer(
+fn push_answer(
     alloc: Global,
     reader: &mut EventReader,
     net: &Network,
     line: &[u8],
-) -> Result<String, AllocError> {
+    text: &mut String,
+) -> Result<(), AllocError> {
     if line.len() > MOST_LINE as usize {
         return Err(AllocError);
     }
-    let read = reader.read(line, net);
+    push_read(reader.read(line, net), text)?;
     let points = numbers(alloc, reader.completions())?;
+    write!(text, " {points:?}")
+}
+
+/// The event of a line, or its fault.
+fn push_read(read: Result<Event, FormatKind>, text: &mut String) -> Result<(), AllocError> {
     match read {
-        Ok(Event::Blank) => format!(in alloc; "blank {points:?}"),
-        Ok(Event::At(moment)) => format!(in alloc; "at {moment} {points:?}"),
-        Ok(Event::Done) => format!(in alloc; "done {points:?}"),
-        Err(fault) => format!(in alloc; "{fault} {points:?}"),
+        Ok(Event::Blank) => text.push_str("blank"),
+        Ok(Event::At(moment)) => write!(text, "at {moment}"),
+        Ok(Event::Done) => text.push_str("done"),
+        Err(fault) => write!(text, "{fault}"),
     }
 }
 
 /// The numbers of points.
 fn numbers(alloc: Global, points: &[PointId]) -> Result<Vec<u32>, AllocError> {
-    points.iter().map(|point| point.0).collect(alloc)
+    let mut numbers = Vec::new(alloc);
+    for point in points {
+        numbers.push(point.0)?;
+    }
+    Ok(numbers)
+}
+
+fn try_line(
+    rt: &impl Abort,
+    alloc: Global,
+    reader: &mut EventReader,
+    net: &Network,
+    row: &str,
+) -> Result<(), Fail> {
+    let (line, wanted) = cells(row).ok_or("a row")?;
+    let mut result_text = String::new(alloc);
+    push_answer(alloc, reader, net, line.as_bytes(), &mut result_text)?;
+    see_text(rt, result_text.as_str(), wanted, line);
+    Ok(())
 }
 
 fn try_lines(rt: &impl Abort, alloc: Global, net: &Network) -> Result<(), Fail> {
     let mut reader = EventReader::new(alloc)?;
     for row in LINES.split('\n') {
-        let (line, wanted) = cells(row).ok_or("a row")?;
-        let result_text = answer(alloc, &mut reader, net, line.as_bytes())?;
-        assert_eq!(rt; result_text.as_str(), wanted, "{line}");
+        try_line(rt, alloc, &mut reader, net, row)?;
     }
     Ok(())
 }
@@ -102,19 +124,43 @@ fn longest_line(alloc: Global) -> Result<Vec<u8>, AllocError> {
     Ok(line)
 }
 
-/// How many completions are kept of a line, and that each is C.
+/// How many completions of C are kept of a line.
 fn completions(alloc: Global, net: &Network, line: &[u8]) -> Result<usize, AllocError> {
     let mut reader = EventReader::new(alloc)?;
-    answer(alloc, &mut reader, net, line)?;
-    let points = reader.completions();
-    Ok(points.iter().filter(|point| **point == PointId(1)).count())
+    read_line(alloc, net, line, &mut reader)?;
+    Ok(count_of(reader.completions(), PointId(1)))
+}
+
+fn read_line(
+    alloc: Global,
+    net: &Network,
+    line: &[u8],
+    reader: &mut EventReader,
+) -> Result<(), AllocError> {
+    let mut answer = String::new(alloc);
+    push_answer(alloc, reader, net, line, &mut answer)
+}
+
+fn count_of(points: &[PointId], wanted: PointId) -> usize {
+    let mut count = 0usize;
+    for point in points {
+        if *point == wanted {
+            count = count.saturating_add(1);
+        }
+    }
+    count
 }
 
 #[test]
 fn longest_event(rt: HostRuntime) -> Result<(), Fail> {
     let line = longest_line(rt.alloc())?;
     assert_eq!(rt; line.len(), 65_536);
-    let net = network(rt.alloc(), PLAN)?;
-    assert_eq!(rt; completions(rt.alloc(), &net, &line)?, 32_766);
+    try_longest(&rt, rt.alloc(), &line)
+}
+
+fn try_longest(rt: &impl Abort, alloc: Global, line: &[u8]) -> Result<(), Fail> {
+    let net = network(alloc, PLAN)?;
+    let count = completions(alloc, &net, line)?;
+    assert_eq!(rt; count, 32_766);
     Ok(())
 }

@@ -22,8 +22,8 @@ fn look_up(rt: &impl Abort, net: &Network) {
         ("", None, None),
     ];
     for (text, point, bound) in rows {
-        assert_eq!(rt; net.point(text.as_bytes()), point, "{text}");
-        assert_eq!(rt; net.bound(text.as_bytes()), bound, "{text}");
+        let found = (net.point(text.as_bytes()), net.bound(text.as_bytes()));
+        assert_eq!(rt; found, (point, bound), "{text}");
     }
 }
 
@@ -35,12 +35,25 @@ fn links_of_points(rt: &impl Abort, alloc: Global, net: &Network) -> Result<(), 
         (PointId(3), Some(LinkId(1)), [LinkId(2)].as_slice()),
     ];
     for (point, ending, beginning) in rows {
-        if (point.0 as usize) < net.points().len() {
-            assert_eq!(rt; net.activation(point), ending);
-            assert_eq!(rt; net.is_contingent(point), ending.is_some());
-            let links = net.links_from(alloc, point)?;
-            assert_eq!(rt; links.as_slice(), beginning);
-        }
+        try_links(rt, alloc, net, point, ending, beginning)?;
+    }
+    Ok(())
+}
+
+/// The link that ends in a point, and those that begin in it.
+fn try_links(
+    rt: &impl Abort,
+    alloc: Global,
+    net: &Network,
+    point: PointId,
+    ending: Option<LinkId>,
+    beginning: &[LinkId],
+) -> Result<(), AllocError> {
+    if (point.0 as usize) < net.points().len() {
+        let found = (net.activation(point), net.is_contingent(point));
+        assert_eq!(rt; found, (ending, ending.is_some()));
+        let links = net.links_from(alloc, point)?;
+        assert_eq!(rt; links.as_slice(), beginning);
     }
     Ok(())
 }
@@ -48,13 +61,17 @@ fn links_of_points(rt: &impl Abort, alloc: Global, net: &Network) -> Result<(), 
 #[test]
 fn readers_of_a_network(rt: HostRuntime) -> Result<(), Fail> {
     let net = network(rt.alloc(), LARGER)?;
+    see_sizes(&rt, &net);
+    look_up(&rt, &net);
+    Ok(links_of_points(&rt, rt.alloc(), &net)?)
+}
+
+fn see_sizes(rt: &impl Abort, net: &Network) {
     assert_eq!(rt;
         (net.points().len(), net.bounds().len(), net.links().len()),
         (4, 2, 3)
     );
     assert_eq!(rt; net.greatest(), 30);
-    look_up(&rt, &net);
-    Ok(links_of_points(&rt, rt.alloc(), &net)?)
 }
 
 /// The links that begin in the first point of a network that has points.

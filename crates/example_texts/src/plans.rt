@@ -2,7 +2,7 @@
 
 ghost use Rattle.std.specs.Prelude.{◌≡◌, ◌⊎◌};
 
-use crate::rows::{cells, feed};
+use crate::rows::{cells, exchange, feed, see_bytes, see_text, with_line_ends};
 use plan_format::{
     PlanLine, PlanReader, PlanSection, PlanStage, PlanVersion, print_plan, read_plan,
     read_plan_line,
@@ -93,23 +93,36 @@ fn shown_line(alloc: Global, line: &str, version: u32) -> Result<String, AllocEr
     requires { (version ≡ 1) ⊎ (version ≡ 2) }
 {
     match read_plan_line(line.as_bytes(), version) {
-        Ok(PlanLine::Blank) => "blank".to_string(alloc),
-        Ok(PlanLine::Header(_)) => "header".to_string(alloc),
-        Ok(PlanLine::Part(_)) => "part".to_string(alloc),
-        Ok(PlanLine::Delay(_)) => "delay".to_string(alloc),
-        Ok(PlanLine::Between(_, _, _, _, _)) => "between".to_string(alloc),
-        Ok(PlanLine::End) => "end".to_string(alloc),
+        Ok(read) => line_word(&read).to_string(alloc),
         Err(fault) => fault.to_string(alloc),
     }
+}
+
+fn line_word(line: &PlanLine) -> &'static str {
+    match line {
+        PlanLine::Blank => "blank",
+        PlanLine::Header(_) => "header",
+        PlanLine::Part(_) => "part",
+        PlanLine::Delay(_) => "delay",
+        PlanLine::Between(_, _, _, _, _) => "between",
+        PlanLine::End => "end",
+    }
+}
+
+fn try_line<R: Abort>(rt: &R, alloc: Global, row: &str, version: u32) -> Result<(), Fail>
+    requires { (version ≡ 1) ⊎ (version ≡ 2) }
+{
+    let (line, answer) = cells(row).ok_or("a row")?;
+    let shown = shown_line(alloc, line, version)?;
+    see_text(rt, shown.as_str(), answer, line);
+    Ok(())
 }
 
 fn are_lines<R: Abort>(rt: &R, alloc: Global, rows: &str, version: u32) -> Result<(), Fail>
     requires { (version ≡ 1) ⊎ (version ≡ 2) }
 {
     for row in rows.split('\n') {
-        let (line, answer) = cells(row).ok_or("a row")?;
-        let shown = shown_line(alloc, line, version)?;
-        assert_eq!(rt; shown.as_str(), answer, "{line}");
+        try_line(rt, alloc, row, version)?;
     }
     Ok(())
 }
@@ -180,14 +193,6 @@ fn declared(alloc: Global, reader: &PlanReader) -> Result<Vec<u8>, AllocError> {
     }
 }
 
-fn exchange(text: &mut [u8], old: u8, new: u8) {
-    for byte in text.iter_mut() {
-        if *byte == old {
-            *byte = new;
-        }
-    }
-}
-
 /// The answer to a plan text that is read line by line.
 fn answer_by_line(alloc: Global, text: &str) -> Result<Vec<u8>, AllocError> {
     let mut reader = PlanReader::new(alloc);
@@ -197,12 +202,17 @@ fn answer_by_line(alloc: Global, text: &str) -> Result<Vec<u8>, AllocError> {
     }
 }
 
+fn try_plan(rt: &impl Abort, alloc: Global, row: &str) -> Result<(), Fail> {
+    let (text, answer) = cells(row).ok_or("a row")?;
+    let result_text = answer_by_line(alloc, text)?;
+    see_bytes(rt, result_text.as_slice(), answer.as_bytes(), text);
+    Ok(())
+}
+
 #[test]
 fn plans(rt: HostRuntime) -> Result<(), Fail> {
     for row in PLANS.split('\n') {
-        let (text, answer) = cells(row).ok_or("a row")?;
-        let result_text = answer_by_line(rt.alloc(), text)?;
-        assert_eq!(rt; result_text.as_slice(), answer.as_bytes(), "{text}");
+        try_plan(&rt, rt.alloc(), row)?;
     }
     Ok(())
 }
@@ -221,13 +231,6 @@ stnu 1|end|foo => [] 11 0
 stnu 2|delay 3|point A|point B|between w A 1 2 B|end => [3, 4, 5, 5] 52 3
 stnu 1\r||point A\r|# x|point B|bound A A B 1||link A 1 2 B|  end  \r|foo => [3, 5, 6, 8] 67 0";
 
-/// The text of a row, with its line ends.
-fn with_line_ends(alloc: Global, row: &str) -> Result<Vec<u8>, AllocError> {
-    let mut text = row.as_bytes().to_vec(alloc)?;
-    exchange(&mut text, b'|', b'\n');
-    Ok(text)
-}
-
 /// The lines of the parts of a text, the bytes that were used and the delay, or the fault.
 fn answer_to_whole(alloc: Global, text: &[u8]) -> Result<String, AllocError> {
     if text.len() > 1_000 {
@@ -239,13 +242,18 @@ fn answer_to_whole(alloc: Global, text: &[u8]) -> Result<String, AllocError> {
     }
 }
 
+fn try_whole_text(rt: &impl Abort, alloc: Global, row: &str) -> Result<(), Fail> {
+    let (text, answer) = cells(row).ok_or("a row")?;
+    let bytes = with_line_ends(alloc, text)?;
+    let result_text = answer_to_whole(alloc, &bytes)?;
+    see_text(rt, result_text.as_str(), answer, text);
+    Ok(())
+}
+
 #[test]
 fn whole_texts(rt: HostRuntime) -> Result<(), Fail> {
     for row in TEXTS.split('\n') {
-        let (text, answer) = cells(row).ok_or("a row")?;
-        let bytes = with_line_ends(rt.alloc(), text)?;
-        let result_text = answer_to_whole(rt.alloc(), &bytes)?;
-        assert_eq!(rt; result_text.as_str(), answer, "{text}");
+        try_whole_text(&rt, rt.alloc(), row)?;
     }
     Ok(())
 }
@@ -265,19 +273,26 @@ fn feed_points(alloc: Global, reader: &mut PlanReader, count: u32) -> Result<(),
 fn points(alloc: Global, count: u32) -> Result<String, Fail> {
     let mut reader = PlanReader::new(alloc);
     feed_points(alloc, &mut reader, count)?;
+    Ok(points_read(alloc, &reader)?)
+}
+
+fn points_read(alloc: Global, reader: &PlanReader) -> Result<String, AllocError> {
     match reader.build(alloc) {
-        Ok(net) => Ok(net.points().len().to_string(alloc)?),
-        Err(fault) => Ok(fault.to_string(alloc)?),
+        Ok(net) => net.points().len().to_string(alloc),
+        Err(fault) => fault.to_string(alloc),
     }
+}
+
+fn try_points(rt: &impl Abort, alloc: Global, count: u32, answer: &str) -> Result<(), Fail> {
+    let points = points(alloc, count)?;
+    assert_eq!(rt; points.as_str(), answer);
+    Ok(())
 }
 
 #[test]
 fn largest_plan(rt: HostRuntime) -> Result<(), Fail> {
-    let accepted = points(rt.alloc(), 2_000)?;
-    assert_eq!(rt; accepted.as_str(), "2000");
-    let refused = points(rt.alloc(), 2_001)?;
-    assert_eq!(rt; refused.as_str(), "limit in line 2002");
-    Ok(())
+    try_points(&rt, rt.alloc(), 2_000, "2000")?;
+    try_points(&rt, rt.alloc(), 2_001, "limit in line 2002")
 }
 
 fn look_at(rt: &impl Abort, reader: &PlanReader) {

@@ -5,12 +5,39 @@ ghost use Rattle.net_model.specs.Network.{HasPlanNumbers};
 
 use net_model::{FormatFault, Network, TextFault, WordFault};
 use plan_format::{PlanLine, PlanReader};
-use std::alloc::Global;
+use std::alloc::{AllocError, Global};
+use std::process::Abort;
 use std::test::Fail;
 
 /// The input and the answer of a row.
 pub fn cells(row: &str) -> Option<(&str, &str)> {
     row.split_once(" => ")
+}
+
+/// A text is the expected one, of an input.
+pub fn see_text(rt: &impl Abort, text: &str, expected: &str, input: &str) {
+    assert_eq!(rt; text, expected, "{input}");
+}
+
+/// Bytes are the expected ones, of an input.
+pub fn see_bytes(rt: &impl Abort, bytes: &[u8], expected: &[u8], input: &str) {
+    assert_eq!(rt; bytes, expected, "{input}");
+}
+
+/// Puts a byte in place of another.
+pub fn exchange(text: &mut [u8], old: u8, new: u8) {
+    for byte in text.iter_mut() {
+        if *byte == old {
+            *byte = new;
+        }
+    }
+}
+
+/// The text of a cell, with its line ends.
+pub fn with_line_ends(alloc: Global, cell: &str) -> Result<Vec<u8>, AllocError> {
+    let mut text = cell.as_bytes().to_vec(alloc)?;
+    exchange(&mut text, b'|', b'\n');
+    Ok(text)
 }
 
 /// Gives the lines of a plan text to a reader, up to the `end` line or to the first fault.
