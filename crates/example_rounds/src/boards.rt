@@ -21,14 +21,25 @@ fn next(board: &Board, seat: &mut Seat) -> Option<u32>
 }
 
 /// One seat draws every number once, in order, and then finds that there is nothing left.
-fn try_alone<R: Abort>(rt: &R, alloc: Global) -> Result<(), Fail> {
-    let (board, mut seat) = Board::new(alloc, 3, 1)?;
+fn draw_alone<R: Abort>(rt: &R, board: &Board, seat: &mut Seat)
+    requires { IsSeatOfBoard board.now seat.old }
+    ensures { SameSeat seat.old seat.new }
+{
     for number in 0..3 {
-        assert_eq!(rt; next(&board, &mut seat), Some(number));
+        see_drawn(rt, next(board, seat), Some(number));
         assert!(rt; !seat.told());
     }
-    assert_eq!(rt; next(&board, &mut seat), None);
+    see_drawn(rt, next(board, seat), None);
     assert!(rt; seat.told());
+}
+
+fn see_drawn<R: Abort>(rt: &R, drawn: Option<u32>, wanted: Option<u32>) {
+    assert_eq!(rt; drawn, wanted);
+}
+
+fn try_alone<R: Abort>(rt: &R, alloc: Global) -> Result<(), Fail> {
+    let (board, mut seat) = Board::new(alloc, 3, 1)?;
+    draw_alone(rt, &board, &mut seat);
     if seat.told() {
         board.close(seat);
     }
@@ -42,10 +53,10 @@ fn try_in_turn<R: Abort>(rt: &R, board: &Board, first: &mut Seat, second: &mut S
     ensures first { SameSeat first.old first.new }
     ensures second { SameSeat second.old second.new }
 {
-    assert_eq!(rt; next(board, first), Some(0));
-    assert_eq!(rt; next(board, second), Some(1));
-    assert_eq!(rt; next(board, first), Some(2));
-    assert_eq!(rt; next(board, second), None);
+    see_drawn(rt, next(board, first), Some(0));
+    see_drawn(rt, next(board, second), Some(1));
+    see_drawn(rt, next(board, first), Some(2));
+    see_drawn(rt, next(board, second), None);
     assert!(rt; second.told() && !first.told());
 }
 

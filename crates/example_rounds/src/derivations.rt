@@ -149,23 +149,28 @@ fn ancestors(alloc: Global, dag: &Dag, id: NodeId) -> Result<Vec<NodeId>, Fail> 
     Ok(dag.ancestors(alloc, [id].as_slice())?)
 }
 
-fn push_all(dag: &mut Dag, net: &Network) -> Result<(), Fail> {
+fn push_each(dag: &mut Dag, net: &Network) -> Result<(), Fail> {
     for rule in RULES {
         push(dag, net, rule)?;
     }
     Ok(())
 }
 
-fn refutation(alloc: Global) -> Result<Dag, Fail> {
+fn push_all(alloc: Global, dag: &mut Dag) -> Result<(), Fail> {
     let net = network(alloc, ONE_LINK)?;
+    push_each(dag, &net)
+}
+
+fn refutation(alloc: Global) -> Result<Dag, Fail> {
     let mut dag = Dag::new(alloc);
-    push_all(&mut dag, &net)?;
+    push_all(alloc, &mut dag)?;
     Ok(dag)
 }
 
 fn try_resting<R: Abort>(rt: &R, alloc: Global, dag: &Dag) -> Result<(), Fail> {
     for (id, item, wanted) in RESTING {
-        assert_eq!(rt; rests(alloc, dag, id, item)?, wanted, "{id:?} {item:?}");
+        let found = rests(alloc, dag, id, item)?;
+        assert!(rt; found == wanted, "{id:?} {item:?}");
     }
     Ok(())
 }

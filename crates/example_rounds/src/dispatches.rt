@@ -4,11 +4,12 @@
 ghost use Rattle.std.specs.Prelude.{◌≡◌, ◌≤◌, ◌<◌, length, IfOk, IfSome};
 
 use crate::networks::network;
+use crate::rounds::see_text;
 use derivation_dag::{Plain, Supports};
 use dispatch_net::Dispatch;
 use net_model::{Network, PointId};
 use parallel_rounds::{NoGate, Outcome, propagate};
-use std::alloc::Global;
+use std::alloc::{AllocError, Global};
 use std::process::Abort;
 use std::test::Fail;
 use std::thread::Threads;
@@ -36,64 +37,67 @@ fn dispatch<R: Threads + Sync>(
 }
 
 /// The lower bounds and waits of a point, by numbers.
-fn push_point(
-    alloc: Global,
-    dispatch: &Dispatch,
-    point: PointId,
-    text: &mut String,
-) -> Result<(), Fail>
+fn push_point(dispatch: &Dispatch, point: PointId, text: &mut String) -> Result<(), AllocError>
     requires { point.0 < length dispatch.now.kept }
 {
     for (other, n) in dispatch.lower_bounds(point) {
-        text.push_str(format!(in alloc; "{} after {} by {n}|", point.0, other.0)?.as_str())?;
+        write!(text, "{} after {} by {n}|", point.0, other.0)?;
     }
     for (link, n) in dispatch.waits(point) {
-        text.push_str(format!(in alloc; "{} waits for {} by {n}|", point.0, link.0)?.as_str())?;
+        write!(text, "{} waits for {} by {n}|", point.0, link.0)?;
     }
     Ok(())
 }
 
 /// The lower bounds and waits of so many points.
-fn push_points(
-    alloc: Global,
-    dispatch: &Dispatch,
-    points: u32,
-    text: &mut String,
-) -> Result<(), Fail>
+fn push_points(dispatch: &Dispatch, points: u32, text: &mut String) -> Result<(), AllocError>
     requires { points ≤ length dispatch.now.kept }
 {
     for point in 0..points {
-        push_point(alloc, dispatch, PointId(point), text)?;
+        push_point(dispatch, PointId(point), text)?;
     }
     Ok(())
 }
 
 /// The lower bounds and waits of so many points, and after ` => ` what is left of them without
 /// those that others imply.
-fn push_both(alloc: Global, dispatch: Dispatch, points: u32, text: &mut String) -> Result<(), Fail>
+fn push_both(dispatch: Dispatch, points: u32, text: &mut String) -> Result<(), AllocError>
     requires { points ≤ length dispatch.kept }
 {
-    push_points(alloc, &dispatch, points, text)?;
+    push_points(&dispatch, points, text)?;
     text.push_str(" => ")?;
-    push_points(alloc, &dispatch.slim(), points, text)
+    push_points(&dispatch.slim(), points, text)
 }
 
 /// The lower bounds and waits of the closure of a network, before and after.
-fn shown<R: Threads + Sync>(rt: &R, alloc: Global, parts: &str) -> Result<String, Fail> {
-    let net = network(alloc, parts)?;
-    let mut text = String::new(alloc);
+fn push_shown<R: Threads + Sync>(
+    rt: &R,
+    alloc: Global,
+    net: &Network,
+    text: &mut String,
+) -> Result<(), Fail> {
     let points = net.points().len() as u32;
-    let Some(dispatch) = dispatch(rt, alloc, &net)? else {
-        return Ok(text);
-    };
-    push_both(alloc, dispatch, points, &mut text)?;
-    Ok(text)
+    match dispatch(rt, alloc, net)? {
+        Some(dispatch) => Ok(push_both(dispatch, points, text)?),
+        None => Ok(()),
+    }
+}
+
+fn push_shown_of<R: Threads + Sync>(
+    rt: &R,
+    alloc: Global,
+    parts: &str,
+    text: &mut String,
+) -> Result<(), Fail> {
+    let net = network(alloc, parts)?;
+    push_shown(rt, alloc, &net, text)
 }
 
 fn check<R: Threads + Sync + Abort>(rt: &R, alloc: Global, row: &str) -> Result<(), Fail> {
     let (parts, expected) = row.split_once(" => ").unwrap_or((row, ""));
-    let text = shown(rt, alloc, parts)?;
-    assert_eq!(rt; text.as_str(), expected, "{parts}");
+    let mut text = String::new(alloc);
+    push_shown_of(rt, alloc, parts, &mut text)?;
+    see_text(rt, text.as_str(), expected, parts);
     Ok(())
 }
 

@@ -69,34 +69,45 @@ const EDITS: [(&str, &str, &str, &str); 7] = [
 
 /// How many nodes a store keeps and withdraws when it follows an edit after the rounds of a
 /// network, and its nodes then.
-fn followed<R: Threads + Sync>(
+fn push_followed<R: Threads + Sync>(
     rt: &R,
     alloc: Global,
     plan: &str,
-    words: &str,
+    edit: &Edit,
     after: &str,
-) -> Result<String, Fail> {
+    text: &mut String,
+) -> Result<(), Fail> {
     let old = network(alloc, plan)?;
-    let new = network(alloc, after)?;
-    let edit = edit(words).ok_or("no edit")?;
-    let mut text = String::new(alloc);
-    follow(rt, alloc, &old, &edit, &new, &mut text)?;
-    Ok(text)
+    push_followed_from(rt, alloc, &old, edit, after, text)
 }
 
-fn follow<R: Threads + Sync>(
+fn push_followed_from<R: Threads + Sync>(
     rt: &R,
     alloc: Global,
     old: &Network,
     edit: &Edit,
-    new: &Network,
+    after: &str,
     text: &mut String,
 ) -> Result<(), Fail> {
     let mut store = Store::of(alloc, old)?;
     make_rounds(rt, alloc, old, &mut store)?;
-    let answer = store.follow(alloc, old, edit, new)?;
-    text.push_str(format!(in alloc; "{} {}|", answer.kept, answer.withdrawn)?.as_str())?;
-    push_nodes(alloc, new, store.dag(), text)
+    follow(alloc, old, edit, after, &mut store, text)
+}
+
+fn follow(
+    alloc: Global,
+    old: &Network,
+    edit: &Edit,
+    after: &str,
+    store: &mut Store,
+    text: &mut String,
+) -> Result<(), Fail>
+    requires { StandsOn old.now store.old }
+{
+    let new = network(alloc, after)?;
+    let answer = store.follow(alloc, old, edit, &new)?;
+    write!(text, "{} {}|", answer.kept, answer.withdrawn)?;
+    push_nodes(alloc, &new, store.dag(), text)
 }
 
 fn make_rounds<R: Threads + Sync>(
@@ -115,9 +126,26 @@ fn make_rounds<R: Threads + Sync>(
 fn try_edits<R: Threads + Sync + Abort>(rt: &R, alloc: Global) -> Result<(), Fail> {
     for (plan, words, after, shown) in EDITS {
         let found = followed(rt, alloc, plan, words, after)?;
-        assert_eq!(rt; found.as_str(), shown, "{plan}: {words}");
+        see_followed(rt, found.as_str(), shown, plan, words);
     }
     Ok(())
+}
+
+fn followed<R: Threads + Sync>(
+    rt: &R,
+    alloc: Global,
+    plan: &str,
+    words: &str,
+    after: &str,
+) -> Result<String, Fail> {
+    let edit = edit(words).ok_or("no edit")?;
+    let mut text = String::new(alloc);
+    push_followed(rt, alloc, plan, &edit, after, &mut text)?;
+    Ok(text)
+}
+
+fn see_followed(rt: &impl Abort, found: &str, shown: &str, plan: &str, words: &str) {
+    assert!(rt; found == shown, "{plan}: {words}: {found}, not {shown}");
 }
 
 /// The plan of the third row of nodes above.
@@ -157,20 +185,27 @@ fn accept(net: &Network, store: &mut Store, rule: Rule) -> Result<NodeId, Fail>
 
 /// The newest node of the edges from A to D, and of those from D to C.
 fn newest(store: &Store) -> (Option<NodeId>, Option<NodeId>) {
-    let edge = |from, to| Edge {
+    (newest_between(store, 0, 2), newest_between(store, 2, 1))
+}
+
+fn newest_between(store: &Store, from: u32, to: u32) -> Option<NodeId> {
+    store.newest(&Edge {
         from: PointId(from),
         to: PointId(to),
         label: None,
         weight: 0,
-    };
-    (store.newest(&edge(0, 2)), store.newest(&edge(2, 1)))
+    })
 }
 
 #[test]
 fn stores_accept_nodes(rt: HostRuntime) -> Result<(), Fail> {
     let net = network(rt.alloc(), ONE_LINK)?;
-    let mut store = Store::of(rt.alloc(), &net)?;
-    try_accepting(&rt, &net, &mut store)
+    try_store(&rt, rt.alloc(), &net)
+}
+
+fn try_store<R: Abort>(rt: &R, alloc: Global, net: &Network) -> Result<(), Fail> {
+    let mut store = Store::of(alloc, net)?;
+    try_accepting(rt, net, &mut store)
 }
 
 fn try_accepting<R: Abort>(rt: &R, net: &Network, store: &mut Store) -> Result<(), Fail>

@@ -72,21 +72,19 @@ fn pieces(net: &Network, rule: Rule) -> (&'static str, Piece, Piece) {
 }
 
 /// A blank and a name.
-fn push_name(alloc: Global, name: Option<Name>, text: &mut String) -> Result<(), Fail> {
-    let Some(name) = name else {
-        return Err(Fail::from("no name"));
-    };
-    text.push_str(format!(in alloc; " {name}")?.as_str())?;
-    Ok(())
+fn push_name(name: Option<Name>, text: &mut String) -> Result<(), Fail> {
+    match name {
+        Some(name) => Ok(write!(text, " {name}")?),
+        None => Err(Fail::from("no name")),
+    }
 }
 
 /// A blank and a number.
-fn push_number(alloc: Global, number: Option<usize>, text: &mut String) -> Result<(), Fail> {
-    let Some(number) = number else {
-        return Err(Fail::from("no line"));
-    };
-    text.push_str(format!(in alloc; " {number}")?.as_str())?;
-    Ok(())
+fn push_number(number: Option<usize>, text: &mut String) -> Result<(), Fail> {
+    match number {
+        Some(number) => Ok(write!(text, " {number}")?),
+        None => Err(Fail::from("no line")),
+    }
 }
 
 fn push_piece(
@@ -97,8 +95,8 @@ fn push_piece(
 ) -> Result<(), Fail> {
     match piece {
         Piece::Nothing => Ok(()),
-        Piece::Name(name) => push_name(alloc, name, text),
-        Piece::Premise(id) => push_number(alloc, line_of(lines, id), text),
+        Piece::Name(name) => push_name(name, text),
+        Piece::Premise(id) => push_number(line_of(lines, id), text),
     }
 }
 
@@ -126,14 +124,13 @@ fn label_of(node: &Node) -> Option<LinkId> {
 
 fn push_label(alloc: Global, net: &Network, node: &Node, text: &mut String) -> Result<(), Fail> {
     match label_of(node) {
-        Some(label) => push_name(alloc, link_name(net, label), text),
+        Some(label) => push_name(link_name(net, label), text),
         None => Ok(()),
     }
 }
 
-fn push_weight(alloc: Global, weight: i64, text: &mut String) -> Result<(), Fail> {
-    text.push_str(format!(in alloc; " {weight}|")?.as_str())?;
-    Ok(())
+fn push_weight(weight: i64, text: &mut String) -> Result<(), Fail> {
+    Ok(write!(text, " {weight}|")?)
 }
 
 /// A node as the line of a refutation.
@@ -145,10 +142,10 @@ fn push_line(
     text: &mut String,
 ) -> Result<(), Fail> {
     push_rule(alloc, net, lines, node.rule, text)?;
-    push_name(alloc, point_name(net, node.edge.from), text)?;
-    push_name(alloc, point_name(net, node.edge.to), text)?;
+    push_name(point_name(net, node.edge.from), text)?;
+    push_name(point_name(net, node.edge.to), text)?;
     push_label(alloc, net, node, text)?;
-    push_weight(alloc, node.edge.weight, text)
+    push_weight(node.edge.weight, text)
 }
 
 /// The lines of nodes of a list.
@@ -192,15 +189,20 @@ fn steps(alloc: Global, store: &Plain, cycle: &[PointId]) -> Result<Vec<NodeId>,
 {
     let mut ids = Vec::new(alloc);
     for (place, from) in cycle.iter().enumerate() {
-        let to = cycle
-            .get(place + 1)
-            .copied()
-            .or(cycle.first().copied())
-            .ok_or("no point")?;
-        let id = node_of(store, *from, to).ok_or("no edge")?;
-        ids.push(id)?;
+        match step(store, cycle, place, *from) {
+            Some(id) => ids.push(id)?,
+            None => return Err(Fail::from("no edge")),
+        }
     }
     Ok(ids)
+}
+
+/// The node of the edge from the point of a cycle at a place to the next.
+fn step(store: &Plain, cycle: &[PointId], place: usize, from: PointId) -> Option<NodeId>
+    ensures { IfSome result (λ id. id.0 < length store.now.nodes) }
+{
+    let to = cycle.get(place.saturating_add(1)).or(cycle.first())?;
+    node_of(store, from, *to)
 }
 
 fn node_of(store: &Plain, from: PointId, to: PointId) -> Option<NodeId>
@@ -218,36 +220,66 @@ fn node_of(store: &Plain, from: PointId, to: PointId) -> Option<NodeId>
     Some(id)
 }
 
-/// All nodes, the count of rounds, and the refutation if they end in a cycle.
+/// The rounds of a network: all nodes; and the count of rounds, with the order or the refutation in
+/// which they end.
+#[derive(Drop)]
+struct RoundTexts {
+    nodes: String,
+    end: String,
+}
+
 fn shown<R: Threads + Sync>(
     rt: &R,
     alloc: Global,
     parts: &str,
     workers: u32,
-) -> Result<(String, String), Fail>
+) -> Result<RoundTexts, Fail>
     requires { (1 ≤ workers) × (workers ≤ 64) }
 {
-    let net = network(alloc, parts)?;
-    let mut nodes = String::new(alloc);
-    let mut end = String::new(alloc);
-    show(rt, alloc, &net, workers, &mut nodes, &mut end)?;
-    Ok((nodes, end))
+    let mut shown = RoundTexts {
+        nodes: String::new(alloc),
+        end: String::new(alloc),
+    };
+    show(rt, alloc, parts, workers, &mut shown)?;
+    Ok(shown)
 }
 
 fn show<R: Threads + Sync>(
     rt: &R,
     alloc: Global,
+    parts: &str,
+    workers: u32,
+    shown: &mut RoundTexts,
+) -> Result<(), Fail>
+    requires { (1 ≤ workers) × (workers ≤ 64) }
+{
+    let net = network(alloc, parts)?;
+    show_rounds(rt, alloc, &net, workers, shown)
+}
+
+fn show_rounds<R: Threads + Sync>(
+    rt: &R,
+    alloc: Global,
     net: &Network,
     workers: u32,
-    nodes: &mut String,
-    end: &mut String,
+    shown: &mut RoundTexts,
 ) -> Result<(), Fail>
     requires { (1 ≤ workers) × (workers ≤ 64) }
 {
     let mut store = Plain::of(alloc, net)?;
     let outcome = propagate(rt, alloc, net, &mut store, workers, &NoGate)?;
-    push_nodes(alloc, net, store.dag(), nodes)?;
-    show_end(alloc, net, &store, &outcome, end)
+    show_outcome(alloc, net, &store, &outcome, shown)
+}
+
+fn show_outcome(
+    alloc: Global,
+    net: &Network,
+    store: &Plain,
+    outcome: &Outcome,
+    shown: &mut RoundTexts,
+) -> Result<(), Fail> {
+    push_nodes(alloc, net, store.dag(), &mut shown.nodes)?;
+    show_end(alloc, net, store, outcome, &mut shown.end)
 }
 
 fn show_end(
@@ -259,11 +291,11 @@ fn show_end(
 ) -> Result<(), Fail> {
     match outcome {
         Outcome::Closed { rounds, order } => {
-            end.push_str(format!(in alloc; "closed {rounds}")?.as_str())?;
+            write!(end, "closed {rounds}")?;
             push_order(alloc, net, order.as_slice(), end)
         }
         Outcome::Looped { rounds, cycle } => {
-            end.push_str(format!(in alloc; "looped {rounds}|")?.as_str())?;
+            write!(end, "looped {rounds}|")?;
             push_refutation(alloc, net, store, cycle.as_slice(), end)
         }
     }
@@ -276,7 +308,7 @@ fn push_order(
     end: &mut String,
 ) -> Result<(), Fail> {
     for point in order {
-        push_name(alloc, point_name(net, *point), end)?;
+        push_name(point_name(net, *point), end)?;
     }
     Ok(())
 }
@@ -302,7 +334,7 @@ fn push_walk(
 ) -> Result<(), Fail> {
     for step in steps {
         end.push_str("walk")?;
-        push_number(alloc, line_of(lines, *step), end)?;
+        push_number(line_of(lines, *step), end)?;
         end.push_str("|")?;
     }
     Ok(())
@@ -313,10 +345,36 @@ fn try_ends<R: Threads + Sync + Abort>(rt: &R, alloc: Global, workers: u32) -> R
     requires { (1 ≤ workers) × (workers ≤ 64) }
 {
     for (parts, end) in ENDS {
-        let shown = shown(rt, alloc, parts, workers)?;
-        assert_eq!(rt; shown.1.as_str(), end, "{parts} by {workers}");
+        try_end(rt, alloc, parts, end, workers)?;
     }
     Ok(())
+}
+
+fn try_end<R: Threads + Sync + Abort>(
+    rt: &R,
+    alloc: Global,
+    parts: &str,
+    end: &str,
+    workers: u32,
+) -> Result<(), Fail>
+    requires { (1 ≤ workers) × (workers ≤ 64) }
+{
+    let shown = shown(rt, alloc, parts, workers)?;
+    see_text_by(rt, shown.end.as_str(), end, parts, workers);
+    Ok(())
+}
+
+/// A text is the expected one, of an input.
+pub(crate) fn see_text(rt: &impl Abort, text: &str, expected: &str, input: &str) {
+    assert_eq!(rt; text, expected, "{input}");
+}
+
+/// The same, with so many workers.
+fn see_text_by(rt: &impl Abort, text: &str, expected: &str, input: &str, workers: u32) {
+    assert!(rt;
+        text == expected,
+        "{input} by {workers}: {text}, not {expected}"
+    );
 }
 
 /// The nodes of the rounds that are listed one by one, with so many workers.
@@ -324,7 +382,7 @@ fn try_nodes<R: Threads + Sync + Abort>(rt: &R, alloc: Global, workers: u32) -> 
     requires { (1 ≤ workers) × (workers ≤ 64) }
 {
     let shown = shown(rt, alloc, ONE_LINK, workers)?;
-    assert_eq!(rt; shown.0.as_str(), ONE_LINK_NODES, "by {workers}");
+    see_text_by(rt, shown.nodes.as_str(), ONE_LINK_NODES, ONE_LINK, workers);
     Ok(())
 }
 

@@ -1,6 +1,9 @@
 //! Which rows are made in later rounds, and that the gate is called with their targets.
 
 ghost use Rattle.std.specs.Prelude.{◌≡◌, length};
+ghost use Rattle.std.specs.List.{All};
+ghost use Rattle.net_model.specs.Network.{IsPoint};
+ghost use Rattle.parallel_rounds.specs.Targets.{AreRisingPoints};
 ghost use Rattle.closure_model.specs.ReferenceRow.{HasWeightsWithin};
 ghost use Rattle.closure_model.specs.Tables.{IsFor};
 
@@ -63,19 +66,28 @@ fn try_propagation<R: Threads + Sync + Abort>(
     net: &Network,
 ) -> Result<(), Fail> {
     let gate = CallCounter::new();
-    let mut store = Plain::of(alloc, net)?;
-    let outcome = propagate(rt, alloc, net, &mut store, 1, &gate)?;
-    assert!(rt;
-        matches!(
-            outcome,
-            Outcome::Looped {
-                rounds: 2,
-                cycle: _
-            }
-        )
-    );
+    let loops = loops_in_two(rt, alloc, net, &gate)?;
+    assert!(rt; loops);
     assert!(rt; gate.was_called(2, 1, 1));
     Ok(())
+}
+
+/// Whether the rounds of a network end in a cycle after two.
+fn loops_in_two<R: Threads + Sync>(
+    rt: &R,
+    alloc: Global,
+    net: &Network,
+    gate: &CallCounter,
+) -> Result<bool, Fail> {
+    let mut store = Plain::of(alloc, net)?;
+    let outcome = propagate(rt, alloc, net, &mut store, 1, gate)?;
+    Ok(matches!(
+        outcome,
+        Outcome::Looped {
+            rounds: 2,
+            cycle: _
+        }
+    ))
 }
 
 /// Negative edges go from C to A and to D, so these are stale after C; and the rows of these two
@@ -90,14 +102,46 @@ fn try_stale<R: Threads + Sync + Abort>(
     requires within { HasWeightsWithin net.now table.now }
     requires three { length net.now.points ≡ 3 }
 {
-    let gate = CallCounter::new();
     let changed = [PointId(1)];
     let targets = stale(alloc, table, net, changed.as_slice())?;
     assert!(rt; targets.as_slice() == [PointId(0), PointId(2)].as_slice());
-    let rows = round_of(rt, alloc, table, net, targets.as_slice(), 2, &gate)?;
+    try_calls(rt, alloc, net, table, targets.as_slice())?;
+    try_meeting(rt, alloc, net, table, targets.as_slice())
+}
+
+/// The gate is called with A and D.
+fn try_calls<R: Threads + Sync + Abort>(
+    rt: &R,
+    alloc: Global,
+    net: &Network,
+    table: &Table,
+    targets: &[PointId],
+) -> Result<(), Fail>
+    requires fits { IsFor net.now table.now }
+    requires within { HasWeightsWithin net.now table.now }
+    requires points { All (IsPoint net.now) targets.now }
+    requires rise { AreRisingPoints targets.now }
+{
+    let gate = CallCounter::new();
+    let rows = round_of(rt, alloc, table, net, targets, 2, &gate)?;
     assert!(rt; rows.len() == 2 && gate.was_called(1, 0, 1));
+    Ok(())
+}
+
+fn try_meeting<R: Threads + Sync + Abort>(
+    rt: &R,
+    alloc: Global,
+    net: &Network,
+    table: &Table,
+    targets: &[PointId],
+) -> Result<(), Fail>
+    requires fits { IsFor net.now table.now }
+    requires within { HasWeightsWithin net.now table.now }
+    requires points { All (IsPoint net.now) targets.now }
+    requires rise { AreRisingPoints targets.now }
+{
     let gate = FirstRows(Meeting::of(2));
-    round_of(rt, alloc, table, net, targets.as_slice(), 2, &gate)?;
+    round_of(rt, alloc, table, net, targets, 2, &gate)?;
     assert!(rt; gate.0.met() == Some(2), "two workers make rows at once");
     Ok(())
 }
@@ -111,9 +155,13 @@ fn later_rounds_make_stale_rows(rt: HostRuntime) -> Result<(), Fail> {
 #[test]
 fn rows_of_stale_targets(rt: HostRuntime) -> Result<(), Fail> {
     let net = network(rt.alloc(), PLAN)?;
-    let table = base(rt.alloc(), &net)?;
+    try_three(&rt, rt.alloc(), &net)
+}
+
+fn try_three<R: Threads + Sync + Abort>(rt: &R, alloc: Global, net: &Network) -> Result<(), Fail> {
     if net.points().len() != 3 {
         return Err("the network has other points".into());
     }
-    try_stale(&rt, rt.alloc(), &net, &table)
+    let table = base(alloc, net)?;
+    try_stale(rt, alloc, net, &table)
 }

@@ -6,7 +6,7 @@ ghost use Rattle.std.specs.Prelude.{◌≡◌, length};
 use crate::networks::network;
 use labelled_graph::Table;
 use loop_finder::{Found, order};
-use net_model::{Edge, LinkId, Network, PointId};
+use net_model::{Edge, LinkId, Network, PointId, Weight};
 use std::alloc::Global;
 use std::process::Abort;
 use std::test::Fail;
@@ -100,18 +100,27 @@ fn try_copy<R: Abort>(rt: &R, alloc: Global, table: &Table, points: u32) -> Resu
         return Err("the network has other points".into());
     }
     let mut copy = table.copy(alloc)?;
-    assert!(rt; copy.lower_to(&NEW)?);
-    assert_eq!(rt; copy.weight(NEW.from, NEW.to), Some(-7));
-    assert_eq!(rt; table.weight(NEW.from, NEW.to), None);
+    let lowered = copy.lower_to(&NEW)?;
+    assert!(rt; lowered);
+    see_weight(rt, copy.weight(NEW.from, NEW.to), Some(-7));
+    see_weight(rt, table.weight(NEW.from, NEW.to), None);
     Ok(())
+}
+
+fn see_weight<R: Abort>(rt: &R, weight: Option<Weight>, wanted: Option<Weight>) {
+    assert_eq!(rt; weight, wanted);
 }
 
 #[test]
 fn rows_and_copies(rt: HostRuntime) -> Result<(), Fail> {
     let net = network(rt.alloc(), ONE_LINK)?;
-    let table = Table::of(rt.alloc(), &net)?;
-    try_rows(&rt, rt.alloc(), &table, count(&net))?;
-    try_copy(&rt, rt.alloc(), &table, count(&net))
+    try_table(&rt, rt.alloc(), &net)
+}
+
+fn try_table<R: Abort>(rt: &R, alloc: Global, net: &Network) -> Result<(), Fail> {
+    let table = Table::of(alloc, net)?;
+    try_rows(rt, alloc, &table, count(net))?;
+    try_copy(rt, alloc, &table, count(net))
 }
 
 /// What is found in the base table of a network.

@@ -138,21 +138,35 @@ pub(crate) fn base(alloc: Global, net: &Network) -> Result<Table, Fail>
 #[test]
 fn one_worker_makes_all_rows(rt: HostRuntime) -> Result<(), Fail> {
     let net = network(rt.alloc(), PLAN)?;
-    let table = base(rt.alloc(), &net)?;
+    let is_wanted = works_alone(rt.alloc(), &net)?;
+    assert!(rt; is_wanted);
+    Ok(())
+}
+
+/// Whether one worker makes the rows of the plan.
+fn works_alone(alloc: Global, net: &Network) -> Result<bool, Fail> {
     if net.points().len() != 3 {
         return Err("the network has other points".into());
     }
-    let rows = worked(rt.alloc(), &net, &table)?;
-    assert!(rt; are_rows(rows.as_slice()));
-    Ok(())
+    let table = base(alloc, net)?;
+    let rows = worked(alloc, net, &table)?;
+    Ok(are_rows(rows.as_slice()))
 }
 
 #[test]
 fn rows_begin_while_one_is_held(rt: HostRuntime) -> Result<(), Fail> {
     let net = network(rt.alloc(), PLAN)?;
-    let table = base(rt.alloc(), &net)?;
+    try_each_held(&rt, rt.alloc(), &net)
+}
+
+fn try_each_held<R: Threads + Sync + Abort>(
+    rt: &R,
+    alloc: Global,
+    net: &Network,
+) -> Result<(), Fail> {
+    let table = base(alloc, net)?;
     for target in 0..3 {
-        try_held(&rt, rt.alloc(), &net, &table, target)?;
+        try_held(rt, alloc, net, &table, target)?;
     }
     Ok(())
 }
