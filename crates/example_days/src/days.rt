@@ -60,40 +60,93 @@ fn try_days(
 ) -> Result<(), Fail> {
     for expected in days.lines() {
         let which = expected.split(':').next().unwrap_or("");
-        let day = reported(rt, alloc, plan, which)?;
-        assert_eq!(rt; day.as_str(), expected, "{plan}");
+        try_day(rt, alloc, plan, which, expected)?;
     }
     Ok(())
 }
 
+fn try_day(
+    rt: &(impl Abort + Threads + Sync),
+    alloc: Global,
+    plan: &str,
+    which: &str,
+    expected: &str,
+) -> Result<(), Fail> {
+    let mut day = String::new(alloc);
+    push_day(rt, alloc, plan, which, &mut day)?;
+    assert_eq!(rt; day.as_str(), expected, "{plan}");
+    Ok(())
+}
+
 /// A day of a plan: which it is, the durations of its links, and the moments of its points.
-fn reported(
+fn push_day(
     rt: &(impl Threads + Sync),
     alloc: Global,
     plan: &str,
     which: &str,
-) -> Result<String, Fail> {
-    let session = Session::open(rt, alloc, network(alloc, plan)?, 1, &NoGate)?;
+    text: &mut String,
+) -> Result<(), Fail> {
+    let net = network(alloc, plan)?;
+    let session = Session::open(rt, alloc, net, 1, &NoGate)?;
+    push_day_of(alloc, &session, which, text)
+}
+
+fn push_day_of(
+    alloc: Global,
+    session: &Session,
+    which: &str,
+    text: &mut String,
+) -> Result<(), Fail> {
     let Verdict::Controllable = session.verdict() else {
         return Err(Fail::from("not controllable"));
     };
     let dispatch = session.dispatch(alloc)?;
-    day(alloc, session.shown(), dispatch, which)
+    push_played(alloc, session.shown(), dispatch, which, text)
 }
 
 /// A day of a network without a delay, played out on its dispatchable network.
-fn day(alloc: Global, net: &Network, dispatch: Dispatch, which: &str) -> Result<String, Fail>
+fn push_played(
+    alloc: Global,
+    net: &Network,
+    dispatch: Dispatch,
+    which: &str,
+    text: &mut String,
+) -> Result<(), Fail>
     requires of { IsDispatchOfClosure net.now dispatch }
     requires no_delay { net.now.delay ≡ 0 }
 {
-    let situation = situation_of(alloc, net, which)?;
     let mut executor = start(alloc, net, dispatch)?;
-    let schedule = play_out(alloc, &mut executor, net, &situation)?;
-    let mut text = format!(in alloc; "{which}:")?;
-    push_numbers(alloc, &mut text, situation.as_slice())?;
+    push_execution(alloc, net, &mut executor, which, text)
+}
+
+fn push_execution(
+    alloc: Global,
+    net: &Network,
+    executor: &mut Executor,
+    which: &str,
+    text: &mut String,
+) -> Result<(), Fail>
+    requires { IsStartedForward net.now executor.old }
+{
+    let situation = situation_of(alloc, net, which)?;
+    write!(text, "{which}:")?;
+    push_numbers(text, situation.as_slice())?;
     text.push_str(" =")?;
-    push_numbers(alloc, &mut text, schedule.as_slice())?;
-    Ok(text)
+    push_schedule(alloc, net, executor, &situation, text)
+}
+
+fn push_schedule(
+    alloc: Global,
+    net: &Network,
+    executor: &mut Executor,
+    situation: &Situation,
+    text: &mut String,
+) -> Result<(), Fail>
+    requires started { IsStartedForward net.now executor.old }
+    requires situation { IsSituation net.now situation.now.items }
+{
+    let schedule = play_out(alloc, executor, net, situation)?;
+    push_numbers(text, schedule.as_slice())
 }
 
 /// The execution of a network without a delay on what no others imply of the dispatchable network
@@ -118,9 +171,9 @@ fn situation_of(alloc: Global, net: &Network, which: &str) -> Result<Situation, 
     }
 }
 
-fn push_numbers(alloc: Global, text: &mut String, numbers: &[u64]) -> Result<(), Fail> {
+fn push_numbers(text: &mut String, numbers: &[u64]) -> Result<(), Fail> {
     for number in numbers {
-        text.push_str(format!(in alloc; " {number}")?.as_str())?;
+        write!(text, " {number}")?;
     }
     Ok(())
 }
