@@ -3,7 +3,6 @@
 use crate::live::Live;
 use execution_model::{Fed, Finished, Why};
 use net_model::{Network, PointId};
-use std::alloc::Global;
 use std::test::Fail;
 
 /// An answer: a word, a cause, and the point and the moment that it names.
@@ -31,109 +30,91 @@ fn cause(why: Why) -> AnswerWords {
     }
 }
 
-/// A blank and the name of a point.
-fn push_point(alloc: Global, net: &Network, point: PointId, text: &mut String) -> Result<(), Fail> {
-    let Some(name) = net.points().get(point.0 as usize).copied() else {
-        return Err(Fail::from("no point"));
-    };
-    text.push_str(format!(in alloc; " {name}")?.as_str())?;
-    Ok(())
+/// Pushes a blank and the name of a point.
+fn push_point(net: &Network, point: PointId, text: &mut String) -> Result<(), Fail> {
+    match net.points().get(point.0 as usize) {
+        Some(name) => Ok(write!(text, " {name}")?),
+        None => Err(Fail::from("no point")),
+    }
 }
 
-/// A blank and a moment.
-fn push_moment(alloc: Global, moment: u64, text: &mut String) -> Result<(), Fail> {
-    text.push_str(format!(in alloc; " {moment}")?.as_str())?;
-    Ok(())
+/// Pushes a blank and a moment.
+fn push_moment(moment: u64, text: &mut String) -> Result<(), Fail> {
+    Ok(write!(text, " {moment}")?)
 }
 
-fn push_answer_words(
-    alloc: Global,
-    net: &Network,
-    reported: &AnswerWords,
-    text: &mut String,
-) -> Result<(), Fail> {
+/// Pushes the words of an answer.
+fn push_words(net: &Network, reported: &AnswerWords, text: &mut String) -> Result<(), Fail> {
     text.push_str(reported.word)?;
     if let Some(point) = reported.point {
-        push_point(alloc, net, point, text)?;
+        push_point(net, point, text)?;
     }
     if let Some(moment) = reported.moment {
-        push_moment(alloc, moment, text)?;
+        push_moment(moment, text)?;
     }
     Ok(())
 }
 
-/// The words of an answer, after another word.
-fn words(
-    alloc: Global,
+/// Pushes a word and the words of a cause.
+fn push_cause(net: &Network, word: &str, why: Why, text: &mut String) -> Result<(), Fail> {
+    text.push_str(word)?;
+    push_words(net, &cause(why), text)
+}
+
+/// Pushes the answer to a feed.
+pub(crate) fn push_fed(net: &Network, answer: Fed, text: &mut String) -> Result<(), Fail> {
+    match answer {
+        Fed::Acts => Ok(text.push_str("acts")?),
+        Fed::Refused(why) => push_cause(net, "refused ", why, text),
+        Fed::Ended(why) => push_cause(net, "ended ", why, text),
+    }
+}
+
+/// Pushes the answer to the end.
+pub(crate) fn push_finished(
     net: &Network,
-    first: &str,
-    reported: &AnswerWords,
-) -> Result<String, Fail> {
-    let mut text = String::new(alloc);
-    text.push_str(first)?;
-    push_answer_words(alloc, net, reported, &mut text)?;
-    Ok(text)
-}
-
-/// The answer to a feed.
-pub(crate) fn fed(alloc: Global, net: &Network, answer: Fed) -> Result<String, Fail> {
+    answer: Finished,
+    text: &mut String,
+) -> Result<(), Fail> {
     match answer {
-        Fed::Acts => Ok(format!(in alloc; "acts")?),
-        Fed::Refused(why) => words(alloc, net, "refused ", &cause(why)),
-        Fed::Ended(why) => words(alloc, net, "ended ", &cause(why)),
-    }
-}
-
-/// The answer to the end.
-pub(crate) fn finished(alloc: Global, net: &Network, answer: Finished) -> Result<String, Fail> {
-    match answer {
-        Finished::Complete => Ok(format!(in alloc; "complete")?),
+        Finished::Complete => Ok(text.push_str("complete")?),
         Finished::Unfinished(point) => {
-            let reported = AnswerWords {
-                word: "unfinished",
-                point: Some(point),
-                moment: None,
-            };
-            words(alloc, net, "", &reported)
+            text.push_str("unfinished")?;
+            push_point(net, point, text)
         }
-        Finished::Ended(why) => words(alloc, net, "ended ", &cause(why)),
+        Finished::Ended(why) => push_cause(net, "ended ", why, text),
     }
 }
 
-/// A blank and a moment, or `-` for none.
-fn push_maybe(alloc: Global, moment: Option<u64>, text: &mut String) -> Result<(), Fail> {
+/// Pushes a blank and a moment, or `-` for none.
+fn push_maybe(moment: Option<u64>, text: &mut String) -> Result<(), Fail> {
     match moment {
-        Some(moment) => push_moment(alloc, moment, text),
+        Some(moment) => push_moment(moment, text),
         None => Ok(text.push_str(" -")?),
     }
 }
 
-fn push_acts(alloc: Global, net: &Network, live: &Live, text: &mut String) -> Result<(), Fail> {
+fn push_acts(net: &Network, live: &Live, text: &mut String) -> Result<(), Fail> {
     for act in live.acts() {
-        push_moment(alloc, act.moment, text)?;
-        push_point(alloc, net, act.point, text)?;
+        push_moment(act.moment, text)?;
+        push_point(net, act.point, text)?;
     }
     Ok(())
 }
 
-fn push_moments(alloc: Global, net: &Network, live: &Live, text: &mut String) -> Result<(), Fail> {
+fn push_moments(net: &Network, live: &Live, text: &mut String) -> Result<(), Fail> {
     for point in 0..net.points().len() as u32 {
-        push_maybe(alloc, live.moment_of(PointId(point)), text)?;
+        push_maybe(live.moment_of(PointId(point)), text)?;
     }
     Ok(())
 }
 
-/// The last acts, the next due moment, and the moment of each point, in order of number.
-pub(crate) fn push_state(
-    alloc: Global,
-    net: &Network,
-    live: &Live,
-    text: &mut String,
-) -> Result<(), Fail> {
+/// Pushes the last acts, the next due moment, and the moment of each point, in order of number.
+pub(crate) fn push_state(net: &Network, live: &Live, text: &mut String) -> Result<(), Fail> {
     text.push_str(":")?;
-    push_acts(alloc, net, live, text)?;
+    push_acts(net, live, text)?;
     text.push_str(", due")?;
-    push_maybe(alloc, live.next_due(), text)?;
+    push_maybe(live.next_due(), text)?;
     text.push_str(", at")?;
-    push_moments(alloc, net, live, text)
+    push_moments(net, live, text)
 }

@@ -86,8 +86,8 @@ const NETWORKS: [(&str, u32); 9] = [
 #[test]
 fn streams_are_as_slow(rt: HostRuntime) -> Result<(), Fail> {
     let mut draws = Draws { state: 7 };
-    for (parts, count) in NETWORKS {
-        try_network(&rt, rt.alloc(), parts, count, &mut draws)?;
+    for (parts, count) in &NETWORKS {
+        try_network(&rt, rt.alloc(), parts, *count, &mut draws)?;
     }
     Ok(())
 }
@@ -171,17 +171,39 @@ fn completions(
     durations: &[u64],
 ) -> Result<Vec<Completion>, Fail> {
     let mut executor = slow(rt, alloc, net)?;
+    completions_by(rt, alloc, net, durations, &mut executor)
+}
+
+/// The completions of an execution that an executor at its start makes.
+fn completions_by(
+    rt: &impl Abort,
+    alloc: Global,
+    net: &Network,
+    durations: &[u64],
+    executor: &mut SlowExecutor,
+) -> Result<Vec<Completion>, Fail> {
     let mut all = Vec::new(alloc);
     for moment in 0..MOMENTS {
-        if all.len() == durations.len() {
-            break;
+        if all.len() < durations.len() {
+            let listed = completed(alloc, net, executor, durations, moment)?;
+            feed_listed(rt, alloc, executor, moment, listed.as_slice())?;
+            push_completions(&mut all, moment, listed.as_slice())?;
         }
-        let listed = completed(alloc, net, &executor, durations, moment)?;
-        let answer = executor.feed(alloc, moment, listed.as_slice())?;
-        assert_eq!(rt; answer, Fed::Acts);
-        push_completions(&mut all, moment, listed.as_slice())?;
     }
     Ok(all)
+}
+
+/// Feeds a moment with the points that complete, which is not refused.
+fn feed_listed(
+    rt: &impl Abort,
+    alloc: Global,
+    executor: &mut SlowExecutor,
+    moment: u64,
+    listed: &[PointId],
+) -> Result<(), Fail> {
+    let answer = executor.feed(alloc, moment, listed)?;
+    assert_eq!(rt; answer, Fed::Acts);
+    Ok(())
 }
 
 fn push_completions(
@@ -416,6 +438,45 @@ impl Both {
         }
         true
     }
+
+    /// Feeds both what the stream has at a moment, if anything, and says whether they do the same.
+    fn step_at(
+        &mut self,
+        alloc: Global,
+        stream: &Stream<'_>,
+        moment: u64,
+        faults: u64,
+        draws: &mut Draws,
+    ) -> Result<bool, Fail> {
+        match stream.feed(alloc, moment, faults, draws)? {
+            Some(feed) => self.step(alloc, stream.net, &feed),
+            None => Ok(true),
+        }
+    }
+
+    /// Ends both, and says whether they answer the same and are the same then.
+    fn end_alike(&mut self, alloc: Global, net: &Network) -> Result<bool, Fail> {
+        Ok(self.finish(alloc)? && self.are_same(alloc, net)?)
+    }
+
+    /// Feeds both a stream and ends them, and compares them after each feed and at the end. Gives
+    /// why the stream was refused.
+    fn follow(
+        &mut self,
+        rt: &impl Abort,
+        alloc: Global,
+        stream: &Stream<'_>,
+        departures: Departures,
+        draws: &mut Draws,
+    ) -> Result<Option<Why>, Fail> {
+        for moment in 0..stream.end(departures.cut_short, draws) {
+            let same = self.step_at(alloc, stream, moment, departures.faults, draws)?;
+            assert!(rt; same, "{moment}");
+        }
+        let same = self.end_alike(alloc, stream.net)?;
+        assert!(rt; same);
+        Ok(self.refused)
+    }
 }
 
 /// Feeds both executors a stream, and compares them after each feed. Gives why it was refused.
@@ -427,14 +488,5 @@ fn feed_both(
     draws: &mut Draws,
 ) -> Result<Option<Why>, Fail> {
     let mut both = Both::start(rt, alloc, stream.net)?;
-    for moment in 0..stream.end(departures.cut_short, draws) {
-        let Some(feed) = stream.feed(alloc, moment, departures.faults, draws)? else {
-            continue;
-        };
-        let same = both.step(alloc, stream.net, &feed)?;
-        assert!(rt; same, "{moment}");
-    }
-    let same = both.finish(alloc)? && both.are_same(alloc, stream.net)?;
-    assert!(rt; same);
-    Ok(both.refused)
+    both.follow(rt, alloc, stream, departures, draws)
 }

@@ -4,7 +4,7 @@ use crate::comparison::{Departures, Draws, try_stream};
 use crate::plans::network;
 use crate::refusals::Refusals;
 use execution_model::Why;
-use std::alloc::Global;
+use std::alloc::{AllocError, Global};
 use std::process::Abort;
 use std::test::Fail;
 use std::thread::Threads;
@@ -50,61 +50,69 @@ fn try_day(
 }
 
 /// The lines of a day of so many tasks.
-fn drawn(alloc: Global, tasks: u64, draws: &mut Draws) -> Result<String, Fail> {
+fn drawn(alloc: Global, tasks: u64, draws: &mut Draws) -> Result<String, AllocError> {
     let mut day = Day {
-        points: format!(in alloc; "point morning")?,
+        points: String::new(alloc),
         bounds: String::new(alloc),
         links: String::new(alloc),
     };
-    for task in 0..tasks {
-        push_task(alloc, &mut day, task, draws)?;
-    }
-    joined(alloc, &day)
+    push_tasks(&mut day, tasks, draws)?;
+    format!(in alloc; "point morning{}{}{}", day.points, day.bounds, day.links)
 }
 
-fn joined(alloc: Global, day: &Day) -> Result<String, Fail> {
-    Ok(format!(in alloc; "{}{}{}", day.points, day.bounds, day.links)?)
+fn push_tasks(day: &mut Day, tasks: u64, draws: &mut Draws) -> Result<(), AllocError> {
+    for task in 0..tasks {
+        push_task(day, task, draws)?;
+    }
+    Ok(())
 }
 
 /// A task: after the morning or an earlier task, with a duration that is chosen or contingent; and
 /// a point that comes at most some moments before its end, which then has to wait for it.
-fn push_task(alloc: Global, day: &mut Day, task: u64, draws: &mut Draws) -> Result<(), Fail> {
-    push_points(alloc, day, task)?;
-    push_start(alloc, day, task, draws)?;
-    push_end(alloc, day, task, draws)
+fn push_task(day: &mut Day, task: u64, draws: &mut Draws) -> Result<(), AllocError> {
+    write!(
+        day.points,
+        "|point begin{task}|point done{task}|point watch{task}"
+    )?;
+    push_start(day, task, draws)?;
+    push_end(day, task, draws)
 }
 
-fn push_points(alloc: Global, day: &mut Day, task: u64) -> Result<(), Fail> {
-    let points = format!(in alloc; "|point begin{task}|point done{task}|point watch{task}")?;
-    day.points.push_str(points.as_str())?;
-    Ok(())
-}
-
-fn push_start(alloc: Global, day: &mut Day, task: u64, draws: &mut Draws) -> Result<(), Fail> {
+fn push_start(day: &mut Day, task: u64, draws: &mut Draws) -> Result<(), AllocError> {
     let gap = draws.draw(4);
     let sign = if gap == 0 { "" } else { "-" };
-    let bound = match task.checked_sub(draws.draw(3).saturating_add(1)) {
-        None => format!(in alloc; "|bound after{task} begin{task} morning {sign}{gap}")?,
-        Some(last) => format!(in alloc; "|bound after{task} begin{task} done{last} {sign}{gap}")?,
-    };
-    day.bounds.push_str(bound.as_str())?;
-    Ok(())
+    write!(day.bounds, "|bound after{task} begin{task} ")?;
+    match task.checked_sub(draws.draw(3).saturating_add(1)) {
+        None => write!(day.bounds, "morning {sign}{gap}"),
+        Some(last) => write!(day.bounds, "done{last} {sign}{gap}"),
+    }
 }
 
-fn push_end(alloc: Global, day: &mut Day, task: u64, draws: &mut Draws) -> Result<(), Fail> {
+fn push_end(day: &mut Day, task: u64, draws: &mut Draws) -> Result<(), AllocError> {
     let least = draws.draw(4).saturating_add(1);
     let most = least.saturating_add(draws.draw(6));
     let notice = draws.draw(5);
-    let watch = format!(in alloc; "|bound watch{task} watch{task} done{task} {notice}")?;
-    day.bounds.push_str(watch.as_str())?;
+    push_bound(day, ["watch", "watch", "done"], task, "", notice)?;
     if draws.draw(3) == 0 {
-        let chosen = format!(in alloc;
-            "|bound least{task} done{task} begin{task} -{least}|bound most{task} begin{task} done{task} {most}"
-        )?;
-        day.bounds.push_str(chosen.as_str())?;
+        push_bound(day, ["least", "done", "begin"], task, "-", least)?;
+        push_bound(day, ["most", "begin", "done"], task, "", most)
     } else {
-        let link = format!(in alloc; "|link begin{task} {least} {most} done{task}")?;
-        day.links.push_str(link.as_str())?;
+        write!(day.links, "|link begin{task} {least} {most} done{task}")
     }
-    Ok(())
+}
+
+/// A bound between two points of a task, by the words of its name and of the points, and the sign
+/// and the size of its number.
+fn push_bound(
+    day: &mut Day,
+    words: [&str; 3],
+    task: u64,
+    sign: &str,
+    size: u64,
+) -> Result<(), AllocError> {
+    let [name, from, to] = words;
+    write!(
+        day.bounds,
+        "|bound {name}{task} {from}{task} {to}{task} {sign}{size}"
+    )
 }

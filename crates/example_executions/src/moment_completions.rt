@@ -15,14 +15,20 @@ use net_model::{Link, PointId, Weight};
 use std::test::Fail;
 
 /// So many moments after another.
+pub(crate) fn later(moment: u64, count: u64) -> Result<u64, Fail>
+    ensures { IfOk result (λ sum. sum ≡ moment + count) }
+{
+    match moment.checked_add(count) {
+        Some(sum) => Ok(sum),
+        None => Err(Fail::from("too late a moment")),
+    }
+}
+
+/// A duration after a moment.
 fn after(moment: u64, n: Weight) -> Result<u64, Fail>
     ensures { IfOk result (λ sum. sum ≡ moment + unsigned_abs n) }
 {
-    Ok(
-        moment
-            .checked_add(n.unsigned_abs())
-            .ok_or("too late a moment")?,
-    )
+    later(moment, n.unsigned_abs())
 }
 
 fn refusal_of_duration(

@@ -9,6 +9,7 @@ ghost use Rattle.example_executions.specs.TimeSteps.{IsStepTaken, IsDueAnswerWit
 ghost use Rattle.example_executions.specs.TimeSteps.{IsNextDueWithin, many_moments};
 
 use crate::lists::{TestLists, moment_of};
+use crate::moment_completions::later;
 use crate::time_steps::{all_have_come, last_of};
 use dispatch_net::Dispatch;
 use execution_model::{Act, Fed, Finished, MOST_MOMENT, Why};
@@ -129,7 +130,7 @@ impl SlowExecutor {
         ensures { IfOk result (IsNextDueWithin many_moments self.now) }
     {
         let from = self.next_moment()?;
-        let until = from.checked_add(MOMENTS).ok_or("too late a moment")?;
+        let until = later(from, MOMENTS)?;
         for t in from..until {
             if self.lists.has_acts(alloc, self.moments.as_slice(), t)? {
                 return Ok(Some(t));
@@ -143,7 +144,7 @@ impl SlowExecutor {
         ensures { IfOk result (λ next. next ≡ next_moment self.now) }
     {
         match self.last {
-            Some(last) => Ok(last.checked_add(1).ok_or("too late a moment")?),
+            Some(last) => later(last, 1),
             None => Ok(0),
         }
     }
@@ -223,7 +224,7 @@ impl SlowExecutor {
         ensures { OnOk result (IsWhole self.old self.new) }
     {
         let from = self.next_moment()?;
-        let until = from.checked_add(MOMENTS).ok_or("too late a moment")?;
+        let until = later(from, MOMENTS)?;
         for end in from..until {
             if self.run_whole(alloc, from, end)? {
                 return Ok(());

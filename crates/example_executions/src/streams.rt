@@ -1,12 +1,11 @@
 //! Streams, with the answer to each feed.
 
-use crate::answer_words::{fed, finished, push_state};
+use crate::answer_words::{push_fed, push_finished, push_state};
 use crate::live::Live;
-use crate::plans::{network, push_points};
+use crate::plans::{network, points};
 use net_model::Network;
 use std::alloc::Global;
 use std::process::Abort;
-use std::str::SplitWhitespace;
 use std::test::Fail;
 use std::thread::Threads;
 
@@ -173,7 +172,7 @@ done = ended twice F 9:, due -, at 0 5 5 9 0",
 
 #[test]
 fn streams_are_answered(rt: HostRuntime) -> Result<(), Fail> {
-    for (parts, streams) in STREAMS {
+    for (parts, streams) in &STREAMS {
         check_streams(&rt, rt.alloc(), parts, streams)?;
     }
     Ok(())
@@ -219,36 +218,63 @@ fn check_lines(
     stream: &str,
 ) -> Result<(), Fail> {
     for line in stream.split('\n') {
-        let (words, wanted) = line.split_once(" = ").ok_or("no row")?;
-        let mut text = answer(alloc, net, live, words)?;
-        push_state(alloc, net, live, &mut text)?;
-        assert_eq!(rt; text.as_str(), wanted, "{line}");
+        check_line(rt, alloc, net, live, line)?;
     }
     Ok(())
 }
 
-/// The answer to a feed or to the end.
-fn answer(alloc: Global, net: &Network, live: &mut Live, words: &str) -> Result<String, Fail> {
-    if words == "done" {
-        return finished(alloc, net, live.finish());
-    }
-    let mut words = words.split_whitespace();
-    let moment: u64 = words
-        .next()
-        .and_then(|word| word.parse().ok())
-        .ok_or("no moment")?;
-    feed(alloc, net, live, moment, &mut words)
+fn check_line(
+    rt: &impl Abort,
+    alloc: Global,
+    net: &Network,
+    live: &mut Live,
+    line: &str,
+) -> Result<(), Fail> {
+    let (words, wanted) = line.split_once(" = ").ok_or("no row")?;
+    let mut text = String::new(alloc);
+    push_line(alloc, net, live, words, &mut text)?;
+    check_text(rt, text.as_str(), wanted, line);
+    Ok(())
 }
 
+fn check_text(rt: &impl Abort, text: &str, wanted: &str, line: &str) {
+    assert_eq!(rt; text, wanted, "{line}");
+}
+
+/// Feeds or ends, and pushes the answer and what stands then.
+fn push_line(
+    alloc: Global,
+    net: &Network,
+    live: &mut Live,
+    words: &str,
+    text: &mut String,
+) -> Result<(), Fail> {
+    if words == "done" {
+        push_finished(net, live.finish(), text)?;
+    } else {
+        feed(alloc, net, live, words, text)?;
+    }
+    push_state(net, live, text)
+}
+
+/// Feeds a moment and the points that complete, and pushes the answer.
 fn feed(
     alloc: Global,
     net: &Network,
     live: &mut Live,
-    moment: u64,
-    words: &mut SplitWhitespace<'_>,
-) -> Result<String, Fail> {
-    let mut listed = Vec::new(alloc);
-    push_points(net, words, &mut listed)?;
-    let answer = live.feed(moment, listed.as_slice())?;
-    fed(alloc, net, answer)
+    words: &str,
+    text: &mut String,
+) -> Result<(), Fail> {
+    let mut words = words.split_whitespace();
+    match moment(words.next()) {
+        Some(moment) => {
+            let listed = points(alloc, net, &mut words)?;
+            push_fed(net, live.feed(moment, listed.as_slice())?, text)
+        }
+        None => Err(Fail::from("no moment")),
+    }
+}
+
+fn moment(word: Option<&str>) -> Option<u64> {
+    word?.parse().ok()
 }
