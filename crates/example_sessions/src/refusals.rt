@@ -19,12 +19,12 @@ const EDIT: &str = "drop bound b2";
 
 #[test]
 fn refused_growths_break_sessions(rt: HostRuntime) -> Result<(), Fail> {
-    let net = network(rt.alloc(), PLAN)?;
     let edit = edit(EDIT).ok_or("no edit")?;
+    let net = network(rt.alloc(), PLAN)?;
     try_refusals(&rt, rt.alloc(), net, &edit)
 }
 
-/// Reopens a session and edits it, each once more if memory was refused, and checks its state.
+/// Tries to reopen and to edit a session of a network.
 fn try_refusals<R: Abort + Threads + Sync>(
     rt: &R,
     alloc: Global,
@@ -32,9 +32,19 @@ fn try_refusals<R: Abort + Threads + Sync>(
     edit: &Edit,
 ) -> Result<(), Fail> {
     let mut session = Session::open(rt, alloc, net, 1, &NoGate)?;
-    reopen(rt, alloc, &mut session, edit)?;
+    try_session(rt, alloc, &mut session, edit)
+}
+
+/// Reopens a session and edits it, each once more if memory was refused, and checks its state.
+fn try_session<R: Abort + Threads + Sync>(
+    rt: &R,
+    alloc: Global,
+    session: &mut Session,
+    edit: &Edit,
+) -> Result<(), Fail> {
+    reopen(rt, alloc, session, edit)?;
     assert!(rt; session.verdict() == Verdict::NotControllable);
-    apply(rt, alloc, &mut session, edit)?;
+    apply(rt, alloc, session, edit)?;
     assert!(rt; session.verdict() == Verdict::Controllable);
     assert!(rt; session.network().bound(b"b2").is_none());
     Ok(())
@@ -59,14 +69,26 @@ fn apply<R: Abort + Threads + Sync>(
     session: &mut Session,
     edit: &Edit,
 ) -> Result<(), Fail> {
-    let answer = session.apply(rt, alloc, edit, &NoGate);
-    if answer.is_err() {
-        assert!(rt; answer == Err(SessionFault::OutOfMemory));
-        see_broken(rt, alloc, session, edit);
-        session.reopen(rt, alloc, &NoGate)?;
-        assert!(rt; session.verdict() == Verdict::NotControllable);
-        session.apply(rt, alloc, edit, &NoGate)?;
+    match session.apply(rt, alloc, edit, &NoGate) {
+        Ok(_) => Ok(()),
+        Err(fault) => {
+            assert!(rt; fault == SessionFault::OutOfMemory);
+            see_broken(rt, alloc, session, edit);
+            apply_again(rt, alloc, session, edit)
+        }
     }
+}
+
+/// Reopens a broken session and edits it.
+fn apply_again<R: Abort + Threads + Sync>(
+    rt: &R,
+    alloc: Global,
+    session: &mut Session,
+    edit: &Edit,
+) -> Result<(), Fail> {
+    session.reopen(rt, alloc, &NoGate)?;
+    assert!(rt; session.verdict() == Verdict::NotControllable);
+    session.apply(rt, alloc, edit, &NoGate)?;
     Ok(())
 }
 
@@ -79,13 +101,14 @@ fn see_broken<R: Abort + Threads + Sync>(
 ) {
     assert!(rt; session.verdict() == Verdict::Broken);
     assert!(rt; session.apply(rt, alloc, edit, &NoGate) == Err(SessionFault::Broken));
-    assert!(rt;
-        session
-            .certificate(rt, alloc)
-            .is_err_and(|fault| fault == AskFault::Broken)
-    );
-    assert!(rt; session.network().points().len() == 3);
-    assert!(rt; session.network().bounds().len() == 2);
-    assert!(rt; session.network().bound(b"b2").is_some());
-    assert!(rt; session.network().links().len() == 1);
+    assert!(rt; matches!(session.certificate(rt, alloc), Err(AskFault::Broken)));
+    see_network(rt, session.network());
+}
+
+/// The network has all its parts.
+fn see_network(rt: &impl Abort, net: &Network) {
+    assert!(rt; net.points().len() == 3);
+    assert!(rt; net.bounds().len() == 2);
+    assert!(rt; net.bound(b"b2").is_some());
+    assert!(rt; net.links().len() == 1);
 }

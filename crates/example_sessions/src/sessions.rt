@@ -96,43 +96,83 @@ fn sessions_answer(rt: HostRuntime) -> Result<(), Fail> {
     Ok(())
 }
 
+/// A plan with its delay, the lines of a session, and the answers.
+#[derive(Clone, Copy)]
+struct TestCase<'a> {
+    delay: Weight,
+    plan: &'a str,
+    lines: &'a str,
+    expected: &'a str,
+}
+
 fn try_sessions<R: Abort + Threads + Sync>(
     rt: &R,
     alloc: Global,
     workers: u32,
 ) -> Result<(), Fail> {
     for (plan, lines, expected) in SESSIONS {
-        let text = answers(rt, alloc, plan, 0, lines, workers)?;
-        assert_eq!(rt; text.as_str(), expected, "{plan}: {lines}");
+        let case = TestCase {
+            delay: 0,
+            plan,
+            lines,
+            expected,
+        };
+        try_session(rt, alloc, workers, case)?;
     }
     for (delay, plan, lines, expected) in DELAYED {
-        let text = answers(rt, alloc, plan, delay, lines, workers)?;
-        assert_eq!(rt; text.as_str(), expected, "{delay} {plan}: {lines}");
+        let case = TestCase {
+            delay,
+            plan,
+            lines,
+            expected,
+        };
+        try_session(rt, alloc, workers, case)?;
     }
     Ok(())
 }
 
-/// The answers of a session of a plan with a delay to lines.
-fn answers<R: Abort + Threads + Sync>(
+fn try_session<R: Abort + Threads + Sync>(
     rt: &R,
     alloc: Global,
-    plan: &str,
-    delay: Weight,
-    lines: &str,
     workers: u32,
-) -> Result<String, Fail> {
+    case: TestCase<'_>,
+) -> Result<(), Fail> {
+    let net = network_with_delay(alloc, case.plan, case.delay)?;
+    let mut session = open(rt, alloc, net, workers)?;
+    try_answers(rt, alloc, &mut session, case)?;
+    see_delays(rt, session, case.delay);
+    Ok(())
+}
+
+fn try_answers<R: Abort + Threads + Sync>(
+    rt: &R,
+    alloc: Global,
+    session: &mut Session,
+    case: TestCase<'_>,
+) -> Result<(), Fail> {
     let mut text = String::new(alloc);
-    let mut session = open(rt, alloc, network_with_delay(alloc, plan, delay)?, workers)?;
-    answer_all(rt, alloc, &mut session, lines, &mut text)?;
-    see_delays(rt, session, delay);
-    Ok(text)
+    answer_all(rt, alloc, session, case.lines, &mut text)?;
+    see_answers(rt, text.as_str(), case);
+    Ok(())
+}
+
+fn see_answers(rt: &impl Abort, text: &str, case: TestCase<'_>) {
+    assert_eq!(rt;
+        text,
+        case.expected,
+        "{} {}: {}",
+        case.delay, case.plan, case.lines
+    );
 }
 
 /// The network keeps its delay, and its shown form has none.
 fn see_delays(rt: &impl Abort, session: Session, delay: Weight) {
-    assert!(rt; session.network().delay() == delay);
-    assert!(rt; session.shown().delay() == 0);
+    see_delays_of(rt, session.network(), session.shown(), delay);
     let (stated, shown) = session.into_networks();
+    see_delays_of(rt, &stated, &shown, delay);
+}
+
+fn see_delays_of(rt: &impl Abort, stated: &Network, shown: &Network, delay: Weight) {
     assert!(rt; stated.delay() == delay);
     assert!(rt; shown.delay() == 0);
 }
@@ -203,14 +243,17 @@ fn push_edit<R: Threads + Sync>(
     edit: &Edit,
     text: &mut String,
 ) -> Result<(), Fail> {
-    let line = match session.apply(rt, alloc, edit, &NoGate) {
+    match session.apply(rt, alloc, edit, &NoGate) {
         Ok(report) => {
-            format!(in alloc; "ok {} {} {}", report.kept, report.withdrawn, report.rounds)?
+            Ok(write!(
+                text,
+                "ok {} {} {}|",
+                report.kept, report.withdrawn, report.rounds
+            )?)
         }
-        Err(SessionFault::Edit(cause)) => format!(in alloc; "refused {cause}")?,
-        Err(fault) => return Err(fault.into()),
-    };
-    push_line(text, line.as_str())
+        Err(SessionFault::Edit(cause)) => Ok(write!(text, "refused {cause}|")?),
+        Err(fault) => Err(fault.into()),
+    }
 }
 
 fn push_proof<R: Threads + Sync>(
@@ -236,29 +279,23 @@ fn push_table(alloc: Global, session: &Session, text: &mut String) -> Result<(),
     match session.verdict() {
         Verdict::Controllable => {
             let dispatch = session.dispatch(alloc)?;
-            push_points(alloc, session.shown(), &dispatch, text)
+            push_points(session.shown(), &dispatch, text)
         }
         verdict => push_line(text, verdict_word(verdict)),
     }
 }
 
-fn push_points(
-    alloc: Global,
-    net: &Network,
-    dispatch: &Dispatch,
-    text: &mut String,
-) -> Result<(), Fail>
+fn push_points(net: &Network, dispatch: &Dispatch, text: &mut String) -> Result<(), Fail>
     requires { length dispatch.now.kept ≡ length net.now.points }
 {
     for point in 0..net.points().len() as u32 {
-        push_point(alloc, net, dispatch, PointId(point), text)?;
+        push_point(net, dispatch, PointId(point), text)?;
     }
     push_line(text, "table end")
 }
 
 /// The lower bounds and waits of a point.
 fn push_point(
-    alloc: Global,
     net: &Network,
     dispatch: &Dispatch,
     point: PointId,
@@ -267,23 +304,34 @@ fn push_point(
     requires { point.0 < length dispatch.now.kept }
 {
     for (other, n) in dispatch.lower_bounds(point) {
-        let line = format!(in alloc; "after {} {} {n}", word(net, point)?, word(net, *other)?)?;
-        push_line(text, line.as_str())?;
+        push_condition(text, "after", name(net, point), name(net, *other), *n)?;
     }
     for (link, n) in dispatch.waits(point) {
-        let line = format!(in alloc; "wait {} {} {n}", word(net, point)?, link_word(net, *link)?)?;
-        push_line(text, line.as_str())?;
+        push_condition(text, "wait", name(net, point), link_name(net, *link), *n)?;
     }
     Ok(())
 }
 
+/// A lower bound or a wait of a point.
+fn push_condition(
+    text: &mut String,
+    word: &str,
+    point: Option<Name>,
+    other: Option<Name>,
+    n: Weight,
+) -> Result<(), Fail> {
+    match (point, other) {
+        (Some(point), Some(other)) => Ok(write!(text, "{word} {point} {other} {n}|")?),
+        _ => Err(Fail::from("no point")),
+    }
+}
+
 /// The name of a point.
-fn word(net: &Network, point: PointId) -> Result<Name, Fail> {
-    Ok(*net.points().get(point.0 as usize).ok_or("no point")?)
+fn name(net: &Network, point: PointId) -> Option<Name> {
+    net.points().get(point.0 as usize).copied()
 }
 
 /// The name of a link.
-fn link_word(net: &Network, link: LinkId) -> Result<Name, Fail> {
-    let link = net.links().get(link.0 as usize).ok_or("no link")?;
-    word(net, link.to)
+fn link_name(net: &Network, link: LinkId) -> Option<Name> {
+    name(net, net.links().get(link.0 as usize)?.to)
 }

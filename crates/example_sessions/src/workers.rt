@@ -38,8 +38,8 @@ impl Gate for Pair {
 
 #[test]
 fn sessions_keep_their_workers(rt: HostRuntime) -> Result<(), Fail> {
-    let net = network(rt.alloc(), PLAN)?;
     let edit = edit(EDIT).ok_or("no edit")?;
+    let net = network(rt.alloc(), PLAN)?;
     try_workers(&rt, rt.alloc(), net, &edit)
 }
 
