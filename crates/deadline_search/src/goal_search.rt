@@ -15,7 +15,7 @@ use parallel_rounds::Gate;
 use std::alloc::{AllocError, Global};
 use std::thread::Threads;
 use strategy_model::laws::shown::law_controllable_is_shown;
-use verdicts::{forward_table_if_controllable, prove, refute};
+use verdicts::{certify_by_closure, certify_by_rounds, forward_table_if_controllable};
 
 /// A network, the goal for whose bound a number is sought, and how many workers test a table.
 #[derive(Drop)]
@@ -83,8 +83,10 @@ impl Search {
         requires none { ¬ IsDeadline self.now.net self.now.goal most }
         ensures { IfOk result (RefutesAt self.now.net self.now.goal most) }
     {
+        law_controllable_is_shown();
         let net = self.at(alloc, most)?;
-        refute(rt, alloc, net, self.workers, gate)
+        net.sound();
+        certify_by_rounds(rt, alloc, &net, self.workers, gate)
     }
 
     /// What proves the network with the bound at a deadline controllable.
@@ -98,7 +100,9 @@ impl Search {
         requires deadline { IsDeadline self.now.net self.now.goal most }
         ensures { IfOk result (ProvesAt self.now.net self.now.goal most) }
     {
+        law_controllable_is_shown();
         let net = self.at(alloc, most)?;
-        prove(rt, alloc, &net, self.workers)
+        net.sound();
+        certify_by_closure(rt, alloc, &net, self.workers)
     }
 }

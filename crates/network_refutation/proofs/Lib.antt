@@ -1,1 +1,1 @@
-pub mod RefutingLemmas
+pub mod RoundsLemmas

@@ -1,7 +1,9 @@
-//! The refutation of a network that no strategy controls, by rounds whose derivation list gives up
-//! the nodes on which nothing rests any more.
+//! The certificate of a network by rounds from its base, whose derivation list gives up the nodes on
+//! which nothing rests any more.
 #![tactic(auto)]
 
-mod refuting;
+mod proving;
+mod rounds_certificate;
 
-pub use refuting::refute;
+pub use proving::prove;
+pub use rounds_certificate::certify;

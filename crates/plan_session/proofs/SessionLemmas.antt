@@ -1,8 +1,7 @@
 -- What is opened of a network, what it decides, and what comes of it.
-use Rattle.std.proofs.Common.{◌≡◌, ℕ, List, length, Option, Some, Result, Ok, Err, refl, subst}
-use Rattle.std.specs.Prelude.{IfOk, IfSome}
+use Rattle.std.proofs.Common.{◌≡◌, List, length, Result, Ok, Err, inr, refl, subst}
+use Rattle.std.specs.Prelude.{IfOk}
 use Rattle.std.specs.declared.alloc.AllocError.{AllocError}
-use Rattle.net_model.specs.EditedNetwork.{edited}
 use Rattle.net_model.specs.Network.{Plan, IsPlan}
 use Rattle.net_model.specs.ShownForm.{shown_form}
 use Rattle.net_model.specs.declared.edit.Edit.{Edit}
@@ -12,11 +11,10 @@ use Rattle.strategy_model.specs.Plays.{IsInstant}
 use Rattle.closure_model.specs.Closure.{IsClosure}
 use Rattle.closure_model.specs.Derivations.{Support, base_support}
 use Rattle.closure_model.specs.Orders.{IsOrder, IsCycle, placed_points}
-use Rattle.closure_model.specs.ReferenceRounds.{Ending, closed, looped, RoundsEnd, in_cycle, in_order, after_one}
-use Rattle.closure_model.specs.ReferenceRound.{after_round}
+use Rattle.closure_model.specs.ReferenceRounds.{closed, looped, RoundsEnd}
 use Rattle.closure_model.specs.Tables.{Graph}
 use Rattle.net_model.proofs.ShownLemmas.{shown_sound}
-use Rattle.edit_laws.specs.EditEffects.{AreWithdrawn, EditsWithdrawNodes, ShownFormsFollowEdits}
+use Rattle.edit_laws.specs.EditEffects.{EditsWithdrawNodes, ShownFormsFollowEdits}
 use Rattle.closure_laws.specs.Laws.{OrderedClosuresAreControllable, StandingCyclesExclude}
 use Rattle.shared_table_laws.specs.LaterNodes.{LaterNodesImprove}
 use Rattle.parallel_rounds.specs.Propagated.{IsPropagated, OutcomeHolds, ending_of, rounds_of}
@@ -30,25 +28,24 @@ use Rattle.cert_checker.specs.Judgement.{judgement_of}
 use Rattle.cert_checker.specs.declared.judgement.Claim.TheVariants.{NotControllable}
 use Rattle.cert_checker.specs.declared.judgement.Judgement.TheVariants.{Accepted}
 use Rattle.refutation_certificates.specs.Certificates.{IsCertificateBy}
-use Rattle.refutation_certificates.specs.Refutations.{Refutes}
+use Rattle.closure_certificates.specs.Certified.{Certifies}
 use Rattle.dispatch_net.specs.Dispatchable.{DispatchLists, IsDispatchBy}
-use Rattle.plan_session.specs.declared.answers.Report.{Report}
 use Rattle.dispatch_net.specs.OfClosure.{IsDispatchOfClosure}
-use Rattle.plan_session.specs.Sessions.{Opened, EndsWell, IsPlacedBy, IsSoundOpened, Opens, FollowsEdit}
+use Rattle.network_refutation.specs.PlacedEndings.{IsPlacedBy}
+use Rattle.network_refutation.proofs.RoundsLemmas.{ends_placed, refutes}
+use Rattle.plan_session.specs.Kept.{IsKept, opened_of}
+use Rattle.plan_session.specs.SessionNetworks.{Makes}
+use Rattle.plan_session.specs.Sessions.{Accepts, EndsWell, FollowsEdit, IsSoundOpened, Opened, Opens, open_state}
+use Rattle.plan_session.specs.declared.answers.Report.{Report}
+use Rattle.plan_session.specs.declared.propagated.Propagated.{Propagated}
 
 -- what an outcome says of a table is what its ending does
-pub says_well : (net : Plan) (support : Support) (outcome : Outcome) → OutcomeHolds net support outcome → EndsWell net support (ending_of outcome)
+says_well : (net : Plan) (support : Support) (outcome : Outcome) → OutcomeHolds net support outcome → EndsWell net support (ending_of outcome)
 says_well net support (Closed rounds order) says = says
 says_well net support (Looped rounds cycle) says = says
 
--- rounds that close have the order in which the points are placed
-pub ends_placed : (net : Plan) (start after : Support) (rounds : ℕ) (ending : Ending) → RoundsEnd net start rounds after ending → IsPlacedBy after.table ending
-ends_placed net start after rounds ending (in_cycle support first left) = tt
-ends_placed net start after rounds ending (in_order support none closes) = refl
-ends_placed net start after rounds ending (after_one support later n how none some more) = ends_placed net (after_round net support) later n how more
-
 -- what was propagated is sound
-pub propagated_sound : (net : Plan) (before after : Support) (outcome : Outcome) → IsPropagated net before after outcome → IsSoundOpened net (record { support = after; ending = ending_of outcome })
+propagated_sound : (net : Plan) (before after : Support) (outcome : Outcome) → IsPropagated net before after outcome → IsSoundOpened net (record { support = after; ending = ending_of outcome })
 propagated_sound net before after outcome propagated = record {
   stands = propagated.stands;
   ends = says_well net after outcome propagated.says;
@@ -63,7 +60,15 @@ opens net start after outcome base propagated = record {
   sound = propagated_sound net start after outcome propagated;
 }
 
+-- and may be kept
+pub opens_kept : (net : Plan) (kept : Propagated) → Opens (shown_form net) (opened_of kept) → IsKept net kept
+opens_kept net kept opened = record { sound = opened.sound; base = λ so. opened }
+
 -- ---- the verdict
+-- the shown form of a network has no delay
+pub shown_instant : (net : Plan) → IsPlan net → IsInstant (shown_form net)
+shown_instant net plan = record { sound = shown_sound net plan; no_delay = refl }
+
 module _ (net : Plan) (opened : Opened) (sound : IsSoundOpened net opened) where
   -- rounds that closed gave the closure, with an order
   pub closed_well : (order : List PointId) → opened.ending ≡ closed order → IsClosure net opened.support.table × IsOrder opened.support.table order
@@ -106,55 +111,39 @@ follows improve old edit new before start after outcome answer followed propagat
   sound = propagated_sound new start after outcome propagated;
 }
 
--- the same of shown forms, with exactly the nodes withdrawn that rest on what the edit takes away
-module _ (withdraw : EditsWithdrawNodes) (follow : ShownFormsFollowEdits) (old : Plan) (edit : Edit) (new : Plan) (before : IsPlan old) (after : IsPlan new) (made : edited old edit ≡ Ok new) where
-  -- an edit is followed from the one shown form to the other
-  abbrev pub Follows : Opened → Opened → Report → Type 0
-  Follows held opened report = (one : FollowsEdit (shown_form old) edit (shown_form new) held opened report) × AreWithdrawn (shown_form old) edit (shown_form new) held.support.nodes one.followed.places
-
-  pub shown_follows : (shown others : Plan) (held opened : Opened) (report : Report) → shown ≡ shown_form old → others ≡ shown_form new → IsSoundOpened shown held → FollowsEdit shown edit others held opened report
-      → Follows held opened report
-  shown_follows shown others held opened report is also sound followed =
-      let sound_there = subst (λ (n : Plan). IsSoundOpened n held) is sound in
-      let from = subst (λ (n : Plan). FollowsEdit n edit others held opened report) is followed in
-      let follows = subst (λ (n : Plan). FollowsEdit (shown_form old) edit n held opened report) also from in
-      let kept = follows.followed in (
-        follows,
-        withdraw (shown_form old) edit (shown_form new) held.support.nodes (record { places = kept.places; kept = kept.kept }) (shown_sound old before) (shown_sound new after) (follow old edit new made)
-            sound_there.stands.derived kept.are,
-      )
+-- what followed an edit from the one shown form to the other is that of a session which accepted it: exactly the nodes are withdrawn that rest on what the edit
+-- takes away
+pub accepts : EditsWithdrawNodes → ShownFormsFollowEdits → (old : Plan) (edit : Edit) (new : Plan) → IsPlan old → Makes old edit new → (held opened : Opened) (report : Report) → IsSoundOpened (shown_form old) held
+    → FollowsEdit (shown_form old) edit (shown_form new) held opened report → Accepts (open_state old held) edit report (open_state new opened)
+accepts withdraw follow old edit new plan makes held opened report sound followed =
+    let kept = followed.followed in
+    record {
+      net = new;
+      made = makes.made;
+      plan = makes.plan;
+      numbers = makes.numbers;
+      held = held;
+      was = refl;
+      opened = opened;
+      follows = followed;
+      withdrawn =
+          withdraw (shown_form old) edit (shown_form new) held.support.nodes (record { places = kept.places; kept = kept.kept }) (shown_sound old plan) (shown_sound new makes.plan) (follow old edit new makes.made)
+          sound.stands.derived kept.are;
+      is = refl;
+    }
 
 -- ---- the certificate
--- rounds from the base that end in a cycle give the certificate of the network
-pub refutes : (net : Plan) (opened : Opened) (cycle : List PointId) (cert : Certificate) → Opens net opened → ¬ IsControllable net → opened.ending ≡ looped cycle → IsCertificateBy net opened.support.nodes cycle cert
-    → judgement_of net cert ≡ Accepted NotControllable → HasWeights cert → Refutes net cert
-refutes net opened cycle cert opens never is by accepted weights = record {
-  never = never;
-  of = record {
-    nodes = opened.support.nodes;
-    lines = by.lines;
-    walk = by.walk;
-    refutation = record {
-      rounds = opens.rounds;
-      after = opened.support;
-      cycle = cycle;
-      ends = subst (RoundsEnd net _ opens.rounds opened.support) is opens.ends;
-      list = refl;
-      by_cycle = by.refutation;
-    };
-    is = by.is;
-  };
-  accepted = accepted;
-  weights = weights;
-}
+-- the certificate by the cycle in which rounds from the base ended decides the network
+pub opens_certifies : (net : Plan) (opened : Opened) (cycle : List PointId) (answer : Result Certificate AllocError) → StandingCyclesExclude → IsInstant net → Opens net opened → opened.ending ≡ looped cycle
+    → IfOk answer (IsCertificateBy net opened.support.nodes cycle) → IfOk answer (λ (cert : Certificate). judgement_of net cert ≡ Accepted NotControllable) → IfOk answer HasWeights → IfOk answer (Certifies net)
+opens_certifies net opened cycle (Ok cert) exclude instant opens is by accepted weights =
+    let never = looped_excludes net opened opens.sound exclude instant cycle is in
+    let ends = subst (RoundsEnd net (base_support net) opens.rounds opened.support) is opens.ends in
+    inr (refutes net opened.support opens.rounds cycle cert ends never by accepted weights)
+opens_certifies net opened cycle (Err error) exclude instant opens is by accepted weights = tt
 
 -- ---- the dispatchable network
 pub dispatches : (net : Plan) (table : Graph) (order : List PointId) (answer : Result DispatchLists AllocError) → IsClosure net table → IsOrder table order → IfOk answer (IsDispatchBy net table)
     → IfOk answer (λ (dispatch : DispatchLists). length dispatch.made ≡ length net.points) → IfOk answer (IsDispatchOfClosure net)
 dispatches net table order (Ok dispatch) closure ordered by whole = record { table = table; order = order; closure = closure; ordered = ordered; by = by; whole = whole }
 dispatches net table order (Err error) closure ordered by whole = tt
-
--- ---- a session that is not broken
--- what is opened of it is sound
-pub opened_sound : (net : Plan) (held : Option Opened) (opened : Opened) → held ≡ Some opened → IfSome held (IsSoundOpened net) → IsSoundOpened net opened
-opened_sound net held opened is sound = subst (λ (o : Option Opened). IfSome o (IsSoundOpened net)) is sound

@@ -9,6 +9,7 @@ use Rattle.closure_model.specs.Codes.{point_code}
 use Rattle.closure_model.specs.Derivations.{Support}
 use Rattle.closure_model.specs.ReferenceRounds.{Ending, closed, looped}
 use Rattle.derivation_dag.specs.SupportCode.{support_code}
+use Rattle.plan_session.specs.SessionNetworks.{NetworkView}
 use Rattle.plan_session.specs.Sessions.{Opened, State, SessionView}
 
 abbrev pub ending_points : Ending → List PointId ⊎ List PointId
@@ -39,4 +40,9 @@ state_code =
 abbrev pub session_code : Coded SessionView
 session_code =
     code_by (State × ℕ) (coded× state_code coded_ℕ) (λ session. (session.state, session.workers)) (λ parts. record { state = parts.0; workers = parts.1 })
+    (λ _. refl)
+
+abbrev pub network_code : Coded NetworkView
+network_code =
+    code_by (Plan × ℕ) (coded× network.the_row.coded coded_ℕ) (λ held. (held.net, held.workers)) (λ parts. record { net = parts.0; workers = parts.1 })
     (λ _. refl)

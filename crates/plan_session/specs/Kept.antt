@@ -1,15 +1,24 @@
--- What a session keeps.
-use Rattle.std.specs.Prelude.{◌≡◌, ℕ, ◌≤◌, Bool, true, Option, IfSome}
+-- What a session keeps of its network.
+use Rattle.std.specs.Prelude.{◌≡◌, true, Option, Some, None}
 use Rattle.net_model.specs.Network.{Plan}
 use Rattle.net_model.specs.ShownForm.{shown_form}
-use Rattle.work_board.specs.Limits.{most_seats}
+use Rattle.strategy_model.specs.Control.{IsControllable}
+use Rattle.parallel_rounds.specs.Propagated.{ending_of}
+use Rattle.dispatch_net.specs.Dispatchable.{DispatchLists}
+use Rattle.dispatch_net.specs.OfClosure.{IsDispatchOfClosure}
 use Rattle.plan_session.specs.Sessions.{Opened, IsSoundOpened, Opens}
+use Rattle.plan_session.specs.declared.propagated.Propagated.{Propagated}
 
--- The second network is the shown form of the first; there are 1 to 64 workers; what is opened of the shown form is sound; and if the session is as it was
--- opened, its rounds are those from the base.
-pub record IsKeptSession (net shown : Plan) (workers : ℕ) (opened : Option Opened) (unedited : Bool) : Type 0 where
-  pub shown_is : shown ≡ shown_form net
-  pub some : 1 ≤ workers
-  pub few : workers ≤ most_seats
-  pub sound : IfSome opened (IsSoundOpened shown)
-  pub from_base : unedited ≡ true → IfSome opened (Opens shown)
+-- what is kept, as what is opened
+abbrev pub opened_of : Propagated → Opened
+opened_of kept = record { support = kept.store; ending = ending_of kept.outcome }
+
+-- what is opened of the shown form is sound, and by rounds from the base if it is said to be so
+pub record IsKept (net : Plan) (kept : Propagated) : Type 0 where
+  pub sound : IsSoundOpened (shown_form net) (opened_of kept)
+  pub base : kept.from_base ≡ true → Opens (shown_form net) (opened_of kept)
+
+-- the dispatchable network of the closure of the shown form, exactly if the network is controllable
+abbrev pub IsDispatchIfControllable : Plan → Option DispatchLists → Type 0
+IsDispatchIfControllable net (Some dispatch) = IsControllable net × IsDispatchOfClosure (shown_form net) dispatch
+IsDispatchIfControllable net None = ¬ IsControllable net

@@ -1,4 +1,5 @@
 pub mod Sessions
+pub mod SessionNetworks
 pub mod OpenSessions
 pub mod Codes
 pub mod Kept

@@ -9,9 +9,8 @@ use Rattle.net_model.specs.declared.edit.EditFault.TheVariants as edit_fault
 use Rattle.strategy_model.specs.Control.{IsControllable}
 use Rattle.closure_model.specs.Closure.{IsClosure}
 use Rattle.closure_model.specs.Derivations.{Support, StandsOn, base_support}
-use Rattle.closure_model.specs.Orders.{IsOrder, IsCycle, placed_points}
+use Rattle.closure_model.specs.Orders.{IsOrder, IsCycle}
 use Rattle.closure_model.specs.ReferenceRounds.{Ending, closed, looped, RoundsEnd}
-use Rattle.closure_model.specs.Tables.{Graph}
 use Rattle.closure_model.specs.declared.derivation.Node.{Node}
 use Rattle.edit_laws.specs.EditEffects.{AreWithdrawn}
 use Rattle.shared_table_laws.specs.LaterNodes.{ImproveFrom}
@@ -19,6 +18,7 @@ use Rattle.support_records.specs.FollowedStores.{IsFollowed}
 use Rattle.support_records.specs.declared.store.Withdrawn.{Withdrawn}
 use Rattle.cert_format.specs.declared.certificate.Certificate.{Certificate}
 use Rattle.closure_certificates.specs.Certified.{Certifies}
+use Rattle.network_refutation.specs.PlacedEndings.{IsPlacedBy}
 use Rattle.plan_session.specs.declared.answers.Report.{Report}
 use Rattle.plan_session.specs.declared.answers.SessionFault.{SessionFault}
 use Rattle.plan_session.specs.declared.answers.SessionFault.TheVariants as fault
@@ -36,6 +36,10 @@ pub record Opened : Type 0 where
 pub record State : Type 0 where
   pub net : Plan
   pub opened : Option Opened
+
+-- a session that is not broken
+abbrev pub open_state : Plan → Opened → State
+open_state net opened = record { net = net; opened = Some opened }
 
 -- a session as contracts see it: how it stands, and how many workers make its rounds
 pub record SessionView : Type 0 where
@@ -55,11 +59,6 @@ IsBroken session = session.opened ≡ None
 abbrev pub EndsWell : Plan → Support → Ending → Type 0
 EndsWell net support (closed order) = IsClosure net support.table × IsOrder support.table order
 EndsWell net support (looped cycle) = IsCycle support.table cycle
-
--- if the rounds closed, the order is that in which the points of the table are placed
-abbrev pub IsPlacedBy : Graph → Ending → Type 0
-IsPlacedBy table (closed order) = order ≡ placed_points table
-IsPlacedBy table (looped cycle) = Unit {0}
 
 -- what is opened of a network stands on it, and its rounds ended well
 pub record IsSoundOpened (net : Plan) (opened : Opened) : Type 0 where

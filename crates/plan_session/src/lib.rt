@@ -8,7 +8,8 @@ pub mod laws;
 mod open_session;
 mod propagated;
 mod session;
+mod session_network;
 
 pub use answers::{AskFault, Report, SessionFault, Verdict};
-pub use open_session::OpenSession;
+pub use open_session::{Edited, OpenSession};
 pub use session::Session;

@@ -5,12 +5,13 @@ ghost use Rattle.net_model.specs.ShownForm.{shown_form};
 ghost use Rattle.strategy_model.specs.Control.{IsControllable};
 ghost use Rattle.closure_certificates.specs.Certified.{Certifies};
 ghost use Rattle.work_board.specs.Limits.{most_seats};
-ghost use Rattle.dispatch_net.specs.OfClosure.{IsDispatchOfClosure};
 ghost use Rattle.plan_session.specs.Sessions.{IsOpenedOn};
+ghost use Rattle.plan_session.specs.Kept.{IsDispatchIfControllable};
 ghost use Rattle.plan_session.specs.OpenSessions.{FollowsOrRefuses};
 
-use crate::answers::{AskFault, Report, SessionFault, Verdict};
-use crate::session::Session;
+use crate::answers::Report;
+use crate::propagated::Propagated;
+use crate::session_network::SessionNetwork;
 use cert_format::Certificate;
 use dispatch_net::Dispatch;
 use net_model::{Edit, EditFault, Network};
@@ -20,23 +21,37 @@ use std::marker::Model;
 use std::thread::Threads;
 
 /// A session that is not broken: want of memory ends it, so whoever owns one has a session that
-/// answers. The commands use this one. Contracts see it as the session.
+/// answers. The commands use this one. Contracts see it as a session.
 #[derive(Debug, Drop)]
 pub struct OpenSession {
-    session: Session,
+    network: SessionNetwork,
+    propagated: Propagated,
 }
 
 impl Model for OpenSession {
-    ghost use Rattle.plan_session.specs.Sessions.{IsOpen, SessionView};
+    ghost use Rattle.plan_session.specs.Sessions.{SessionView, open_state};
     ghost use Rattle.plan_session.specs.Codes.{session_code};
+    ghost use Rattle.plan_session.specs.Kept.{IsKept, opened_of};
 
     ghost Value = { SessionView };
 
     ghost coded = { session_code };
 
-    ghost view = { λ held. held.session };
+    ghost view = { λ session. record {
+      state = open_state session.network.net (opened_of session.propagated);
+      workers = session.network.workers;
+    } };
 
-    ghost invariant = { λ held. IsOpen held.session.state };
+    ghost invariant = { λ session. IsKept session.network.net session.propagated };
+}
+
+/// What an edit makes of a session that is not broken.
+#[derive(Debug, Drop)]
+pub enum Edited {
+    /// The session after the edit, and what that came to.
+    Followed(OpenSession, Report),
+    /// The session as it was, and why the edit is refused.
+    Refused(OpenSession, EditFault),
 }
 
 impl OpenSession {
@@ -53,30 +68,42 @@ impl OpenSession {
         ensures opened { IfOk result (λ session. IsOpenedOn net session.state) }
         ensures workers { IfOk result (λ session. session.workers ≡ workers) }
     {
-        let session = Session::open(rt, alloc, net, workers, gate)?;
-        Ok(OpenSession { session })
+        let network = SessionNetwork::of(alloc, net, workers)?;
+        let propagated = Propagated::of(rt, alloc, &network, gate)?;
+        Ok(OpenSession {
+            network,
+            propagated,
+        })
     }
 
-    /// Edits the network, as `Session::apply`, and gives the session back with what the edit came
-    /// to, or why it is refused; then the session is as it was. `AllocError` comes only for want of
-    /// memory, and ends the session.
+    /// Edits the network, as `Session::apply`: the session follows the edit, or refuses it, and then
+    /// is as it was. `AllocError` comes only for want of memory, and ends the session.
     pub fn apply<R: Threads + Sync, G: Gate>(
         self,
         rt: &R,
         alloc: Global,
         edit: &Edit,
         gate: &G,
-    ) -> Result<(OpenSession, Result<Report, EditFault>), AllocError>
-        ensures answers { IfOk result (λ after. FollowsOrRefuses self.state edit.now after.1
-            after.0.state) }
-        ensures workers { IfOk result (λ after. after.0.workers ≡ self.workers) }
+    ) -> Result<Edited, AllocError>
+        ensures { IfOk result (FollowsOrRefuses self edit.now) }
     {
-        let OpenSession { mut session } = self;
-        match session.apply(rt, alloc, edit, gate) {
-            Ok(report) => Ok((OpenSession { session }, Ok(report))),
-            Err(SessionFault::Edit(cause)) => Ok((OpenSession { session }, Err(cause))),
-            Err(SessionFault::OutOfMemory) => Err(AllocError),
-            Err(SessionFault::Broken) => unreachable!(),
+        match self.network.edited(alloc, edit) {
+            Ok(edited) => {
+                let OpenSession {
+                    network,
+                    propagated,
+                } = self;
+                let (propagated, report) = propagated.follow(
+                    rt, alloc, &network, edit, &edited, gate,
+                )?;
+                let session = OpenSession {
+                    network: edited,
+                    propagated,
+                };
+                Ok(Edited::Followed(session, report))
+            }
+            Err(EditFault::OutOfMemory) => Err(AllocError),
+            Err(cause) => Ok(Edited::Refused(self, cause)),
         }
     }
 
@@ -85,11 +112,7 @@ impl OpenSession {
         ensures yes { result ≡ true → IsControllable self.now.state.net }
         ensures no { result ≡ false → ¬ IsControllable self.now.state.net }
     {
-        match self.session.verdict() {
-            Verdict::Controllable => true,
-            Verdict::NotControllable => false,
-            Verdict::Broken => unreachable!(),
-        }
+        self.propagated.is_controllable(&self.network)
     }
 
     /// The certificate that decides the network as it stands, as `Session::certificate`.
@@ -101,42 +124,28 @@ impl OpenSession {
     ) -> Result<Certificate, AllocError>
         ensures { IfOk result (Certifies (shown_form self.now.state.net)) }
     {
-        match self.session.certificate(rt, alloc) {
-            Ok(certificate) => Ok(certificate),
-            Err(AskFault::OutOfMemory) => Err(AllocError),
-            Err(AskFault::Broken) => unreachable!(),
-        }
+        self.propagated.certificate(rt, alloc, &self.network)
     }
 
-    /// The dispatchable network of the closure of the shown form of the network as it stands, which
-    /// is controllable. `AllocError` comes only for want of memory.
-    pub fn dispatch(&self, alloc: Global) -> Result<Dispatch, AllocError>
-        requires { IsControllable self.now.state.net }
-        ensures { IfOk result (IsDispatchOfClosure (shown_form self.now.state.net)) }
+    /// The dispatchable network of the closure of the shown form of the network as it stands,
+    /// exactly if that is controllable. `AllocError` comes only for want of memory.
+    pub fn dispatch(&self, alloc: Global) -> Result<Option<Dispatch>, AllocError>
+        ensures { IfOk result (IsDispatchIfControllable self.now.state.net) }
     {
-        self.session.dispatch(alloc)
+        self.propagated.dispatch(alloc, &self.network)
     }
 
     /// The network as it stands.
     pub fn network(&self) -> &Network
         ensures { result.now ≡ self.now.state.net }
     {
-        self.session.network()
+        self.network.stated()
     }
 
     /// The shown form of the network as it stands.
     pub fn shown(&self) -> &Network
         ensures { result.now ≡ shown_form self.now.state.net }
     {
-        self.session.shown()
-    }
-
-    /// The network as it stands and its shown form; the session ends.
-    pub fn into_networks(self) -> (Network, Network)
-        ensures stated { result.0 ≡ self.state.net }
-        ensures shown { result.1 ≡ shown_form self.state.net }
-    {
-        let OpenSession { session } = self;
-        session.into_networks()
+        self.network.shown()
     }
 }

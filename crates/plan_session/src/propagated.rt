@@ -1,181 +1,174 @@
-//! What a session keeps of a network: its derivations, and how the rounds ended that made them.
+//! What a session keeps of its network: the derivations of the shown form, and how the rounds ended
+//! that made them.
 
-ghost use Rattle.std.specs.Prelude.{◌≡◌, ◌↔◌, ◌≤◌, IfOk, IsTrue};
+ghost use Rattle.std.specs.Prelude.{◌≡◌, ◌↔◌, IfOk, IsTrue};
+ghost use Rattle.net_model.specs.ShownForm.{shown_form};
 ghost use Rattle.strategy_model.specs.Control.{IsControllable};
-ghost use Rattle.refutation_certificates.specs.Refutations.{Refutes};
-ghost use Rattle.closure_certificates.specs.Certified.{Proves};
-ghost use Rattle.work_board.specs.Limits.{most_seats};
+ghost use Rattle.closure_certificates.specs.Certified.{Certifies};
 ghost use Rattle.parallel_rounds.specs.Propagated.{rounds_of};
-ghost use Rattle.dispatch_net.specs.OfClosure.{IsDispatchOfClosure};
-ghost use Rattle.plan_session.specs.Sessions.{IsSoundOpened, Opens, FollowsEdit};
+ghost use Rattle.plan_session.specs.Sessions.{Opens, Accepts, open_state};
+ghost use Rattle.plan_session.specs.SessionNetworks.{Makes};
+ghost use Rattle.plan_session.specs.Kept.{IsKept, IsDispatchIfControllable, opened_of};
 
 use crate::answers::Report;
+use crate::session_network::SessionNetwork;
 use cert_format::Certificate;
-use closure_certificates::laws::law_table_proofs_prove;
-use closure_certificates::table_proof;
 use closure_laws::laws::{law_ordered_closures_are_controllable, law_standing_cycles_exclude};
 use derivation_dag::Supports;
 use dispatch_net::Dispatch;
 use dispatch_net::laws::law_closures_may_dispatch;
-use net_model::{Edit, Network};
-use parallel_rounds::{Gate, Outcome, propagate};
+use edit_laws::laws::{law_edits_withdraw_nodes, law_shown_forms_follow_edits};
+use net_model::Edit;
+use network_refutation::{certify, prove};
+use parallel_rounds::{Gate, NoGate, Outcome, propagate};
 use refutation_certificates::refutation;
 use shared_table_laws::laws::law_later_nodes_improve;
 use std::alloc::{AllocError, Global};
-use std::marker::Model;
 use std::thread::Threads;
+use strategy_model::laws::shown::law_controllable_is_shown;
 use support_records::Store;
 
-/// The derivations of a network, from which rounds were made, and how these ended.
+/// The derivations of the shown form of a network, how the rounds ended that made them, and whether
+/// these were made from its base alone.
 #[derive(Debug, Drop)]
 pub(crate) struct Propagated {
     store: Store,
     outcome: Outcome,
-}
-
-impl Model for Propagated {
-    ghost use Rattle.plan_session.specs.Sessions.{Opened};
-    ghost use Rattle.plan_session.specs.Codes.{opened_code};
-    ghost use Rattle.parallel_rounds.specs.Propagated.{ending_of};
-
-    ghost Value = { Opened };
-
-    ghost coded = { opened_code };
-
-    ghost view = { λ propagated. record {
-      support = propagated.store;
-      ending = ending_of propagated.outcome;
-    } };
+    from_base: bool,
 }
 
 impl Propagated {
-    /// Makes rounds from the base of a network.
+    /// Makes rounds from the base.
     pub(crate) fn of<R: Threads + Sync, G: Gate>(
         rt: &R,
         alloc: Global,
-        net: &Network,
-        workers: u32,
+        network: &SessionNetwork,
         gate: &G,
     ) -> Result<Propagated, AllocError>
-        requires { (1 ≤ workers) × (workers ≤ most_seats) }
-        ensures { IfOk result (Opens net.now) }
+        ensures opened { IfOk result (λ made. Opens (shown_form network.now.net) (opened_of made)) }
+        ensures kept { IfOk result (IsKept network.now.net) }
     {
-        let mut store = Store::of(alloc, net)?;
-        let outcome = propagate(rt, alloc, net, &mut store, workers, gate)?;
-        Ok(Propagated { store, outcome })
-    }
-
-    /// Follows an edit of the network, and makes rounds from there. After `AllocError` the caller
-    /// drops it.
-    pub(crate) fn follow<R: Threads + Sync, G: Gate>(
-        &mut self,
-        rt: &R,
-        alloc: Global,
-        old: &Network,
-        edit: &Edit,
-        new: &Network,
-        workers: u32,
-        gate: &G,
-    ) -> Result<Report, AllocError>
-        requires workers { (1 ≤ workers) × (workers ≤ most_seats) }
-        requires sound { IsSoundOpened old.now self.old }
-        ensures { IfOk result (FollowsEdit old.now edit.now new.now self.old self.new) }
-    {
-        law_later_nodes_improve();
-        let withdrawn = self.store.follow(alloc, old, edit, new)?;
-        let outcome = propagate(rt, alloc, new, &mut self.store, workers, gate)?;
-        let rounds = rounds_of(&outcome);
-        self.outcome = outcome;
-        Ok(Report {
-            kept: withdrawn.kept,
-            withdrawn: withdrawn.withdrawn,
-            rounds,
+        let shown = network.shown();
+        let mut store = Store::of(alloc, shown)?;
+        let outcome = propagate(rt, alloc, shown, &mut store, network.workers(), gate)?;
+        Ok(Propagated {
+            store,
+            outcome,
+            from_base: true,
         })
     }
 
-    /// Whether the network is controllable.
-    pub(crate) fn is_controllable(&self, net: &Network) -> bool
-        requires sound { IsSoundOpened net.now self.now }
-        requires no_delay { net.now.delay ≡ 0 }
-        ensures { IsTrue result ↔ IsControllable net.now }
+    /// Follows an edit of the network, and makes rounds from there.
+    pub(crate) fn follow<R: Threads + Sync, G: Gate>(
+        self,
+        rt: &R,
+        alloc: Global,
+        old: &SessionNetwork,
+        edit: &Edit,
+        new: &SessionNetwork,
+        gate: &G,
+    ) -> Result<(Propagated, Report), AllocError>
+        requires kept { IsKept old.now.net self }
+        requires makes { Makes old.now.net edit.now new.now.net }
+        ensures accepts { IfOk result (λ after. Accepts
+            (open_state old.now.net (opened_of self)) edit.now after.1
+            (open_state new.now.net (opened_of after.0))) }
+        ensures kept { IfOk result (λ after. IsKept new.now.net after.0) }
     {
+        law_edits_withdraw_nodes();
+        law_later_nodes_improve();
+        law_shown_forms_follow_edits();
+        old.sound();
+        let shown = new.shown();
+        let Propagated { mut store, .. } = self;
+        let withdrawn = store.follow(alloc, old.shown(), edit, shown)?;
+        let outcome = propagate(rt, alloc, shown, &mut store, new.workers(), gate)?;
+        let report = Report {
+            kept: withdrawn.kept,
+            withdrawn: withdrawn.withdrawn,
+            rounds: rounds_of(&outcome),
+        };
+        let followed = Propagated {
+            store,
+            outcome,
+            from_base: false,
+        };
+        Ok((followed, report))
+    }
+
+    /// Whether the network is controllable.
+    pub(crate) fn is_controllable(&self, network: &SessionNetwork) -> bool
+        requires { IsKept network.now.net self.now }
+        ensures { IsTrue result ↔ IsControllable network.now.net }
+    {
+        law_controllable_is_shown();
         law_ordered_closures_are_controllable();
         law_standing_cycles_exclude();
-        net.sound();
+        network.sound();
         match self.outcome {
             Outcome::Closed { .. } => true,
             Outcome::Looped { .. } => false,
         }
     }
 
-    /// The table proof of the network.
-    pub(crate) fn table_proof(
+    /// The certificate that decides the shown form of the network: the table proof by its closure,
+    /// or the refutation by rounds from its base, which are made anew if these began elsewhere.
+    pub(crate) fn certificate<R: Threads + Sync>(
         &self,
+        rt: &R,
         alloc: Global,
-        net: &Network,
+        network: &SessionNetwork,
     ) -> Result<Certificate, AllocError>
-        requires sound { IsSoundOpened net.now self.now }
-        requires controllable { IsControllable net.now }
-        requires no_delay { net.now.delay ≡ 0 }
-        ensures { IfOk result (Proves net.now) }
+        requires { IsKept network.now.net self.now }
+        ensures { IfOk result (Certifies (shown_form network.now.net)) }
     {
         law_standing_cycles_exclude();
-        law_table_proofs_prove();
-        net.sound();
+        network.sound();
+        let shown = network.shown();
         match &self.outcome {
             Outcome::Closed { order, .. } => {
-                let certificate = table_proof(alloc, net, self.store.table(), order.as_slice())?;
-                Ok(certificate)
+                prove(alloc, shown, self.store.table(), order.as_slice())
             }
-            Outcome::Looped { .. } => unreachable!(),
-        }
-    }
-
-    /// The certificate of the refutation of the network, if the rounds were made from its base.
-    pub(crate) fn refutation(&self, alloc: Global, net: &Network) -> Result<Certificate, AllocError>
-        requires opened { Opens net.now self.now }
-        requires never { ¬ IsControllable net.now }
-        requires no_delay { net.now.delay ≡ 0 }
-        ensures { IfOk result (Refutes net.now) }
-    {
-        law_ordered_closures_are_controllable();
-        net.sound();
-        match &self.outcome {
-            Outcome::Closed { .. } => unreachable!(),
-            Outcome::Looped { cycle, .. } => {
-                let certificate = refutation(
+            Outcome::Looped { cycle, .. } if self.from_base => {
+                refutation(
                     alloc,
-                    net,
+                    shown,
                     &self.store,
                     self.store.dag(),
                     cycle.as_slice(),
-                )?;
-                Ok(certificate)
+                )
             }
+            Outcome::Looped { .. } => certify(rt, alloc, shown, network.workers(), &NoGate),
         }
     }
 
-    /// The dispatchable network of the closure.
-    pub(crate) fn dispatch(&self, alloc: Global, net: &Network) -> Result<Dispatch, AllocError>
-        requires sound { IsSoundOpened net.now self.now }
-        requires controllable { IsControllable net.now }
-        requires no_delay { net.now.delay ≡ 0 }
-        ensures { IfOk result (IsDispatchOfClosure net.now) }
+    /// The dispatchable network of the closure, exactly if the network is controllable.
+    pub(crate) fn dispatch(
+        &self,
+        alloc: Global,
+        network: &SessionNetwork,
+    ) -> Result<Option<Dispatch>, AllocError>
+        requires { IsKept network.now.net self.now }
+        ensures { IfOk result (IsDispatchIfControllable network.now.net) }
     {
-        law_standing_cycles_exclude();
         law_closures_may_dispatch();
-        net.sound();
+        law_controllable_is_shown();
+        law_ordered_closures_are_controllable();
+        law_standing_cycles_exclude();
+        network.sound();
         match &self.outcome {
             Outcome::Closed { order, .. } => {
-                Dispatch::of(alloc, net, self.store.table(), order.as_slice())
+                let table = self.store.table();
+                let dispatch = Dispatch::of(alloc, network.shown(), table, order.as_slice())?;
+                Ok(Some(dispatch))
             }
-            Outcome::Looped { .. } => unreachable!(),
+            Outcome::Looped { .. } => Ok(None),
         }
     }
 
     /// The list and the table.
     pub(crate) fn store(&self) -> &Store
-        ensures { result.now ≡ self.now.support }
+        ensures { result.now ≡ self.now.store }
     {
         &self.store
     }

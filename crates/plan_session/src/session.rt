@@ -1,32 +1,27 @@
 //! Sessions: a network under edits, with its shown form and the derivations of that.
 
-ghost use Rattle.std.specs.Prelude.{◌≡◌, ◌≤◌, Ok, IfOk};
-ghost use Rattle.net_model.specs.EditedNetwork.{edited};
-ghost use Rattle.net_model.specs.Network.{IsPlan, HasPlanNumbers};
+ghost use Rattle.std.specs.Prelude.{◌≡◌, ◌≤◌, Some, IfOk};
 ghost use Rattle.net_model.specs.ShownForm.{shown_form};
 ghost use Rattle.strategy_model.specs.Control.{IsControllable};
 ghost use Rattle.cert_format.specs.declared.certificate.Certificate.{Certificate};
-ghost use Rattle.refutation_certificates.specs.Refutations.{Refutes};
-ghost use Rattle.closure_certificates.specs.Certified.{Certifies, Proves};
+ghost use Rattle.closure_certificates.specs.Certified.{Certifies};
 ghost use Rattle.work_board.specs.Limits.{most_seats};
 ghost use Rattle.dispatch_net.specs.OfClosure.{IsDispatchOfClosure};
 ghost use Rattle.plan_session.specs.Sessions.{IsOpen, IsOpenedOn, AnswersEdit, AnswersReopening};
 ghost use Rattle.plan_session.specs.Sessions.{IsVerdictOf, AnswersProof, Lends};
+ghost use Rattle.plan_session.specs.Kept.{IsKept, opened_of};
 
 use crate::answers::{AskFault, Report, SessionFault, Verdict};
 use crate::propagated::Propagated;
+use crate::session_network::SessionNetwork;
 use cert_format::Certificate;
 use closure_certificates::laws::law_certificates_are_one;
 use dispatch_net::Dispatch;
-use edit_laws::laws::{law_edits_withdraw_nodes, law_shown_forms_follow_edits};
 use net_model::{Edit, EditFault, Network};
-use network_refutation::refute;
-use parallel_rounds::{Gate, NoGate};
+use parallel_rounds::Gate;
 use std::alloc::{AllocError, Global};
 use std::marker::Model;
-use std::mem;
 use std::thread::Threads;
-use strategy_model::laws::shown::law_controllable_is_shown;
 use support_records::Store;
 
 /// A plan under edits: the network as it stands, its shown form, and the derivations of that, of
@@ -36,19 +31,17 @@ use support_records::Store;
 /// until a `reopen` that succeeds.
 #[derive(Debug, Drop)]
 pub struct Session {
-    net: Network,
-    /// The shown form of the network.
-    shown: Network,
-    workers: u32,
-    opened: Option<Propagated>,
-    /// Whether no edit was accepted since the session was opened.
-    unedited: bool,
+    network: SessionNetwork,
+    /// `None` exactly if the session is broken.
+    propagated: Option<Propagated>,
 }
 
 impl Model for Session {
+    ghost use Rattle.std.specs.Prelude.{IfSome};
+    ghost use Rattle.std.specs.Option.{option_map};
     ghost use Rattle.plan_session.specs.Sessions.{SessionView};
     ghost use Rattle.plan_session.specs.Codes.{session_code};
-    ghost use Rattle.plan_session.specs.Kept.{IsKeptSession};
+    ghost use Rattle.plan_session.specs.Kept.{IsKept, opened_of};
 
     ghost Value = { SessionView };
 
@@ -56,12 +49,14 @@ impl Model for Session {
 
     ghost view = { λ session. record {
       state =
-          record { net = session.net; opened = session.opened };
-      workers = session.workers;
+          record {
+            net = session.network.net;
+            opened = option_map opened_of session.propagated;
+          };
+      workers = session.network.workers;
     } };
 
-    ghost invariant = { λ session. IsKeptSession session.net session.shown session.workers
-        session.opened session.unedited };
+    ghost invariant = { λ session. IfSome session.propagated (IsKept session.network.net) };
 }
 
 impl Session {
@@ -79,14 +74,11 @@ impl Session {
         ensures opened { IfOk result (λ session. IsOpenedOn net session.state) }
         ensures workers { IfOk result (λ session. session.workers ≡ workers) }
     {
-        let shown = net.shown(alloc)?;
-        let opened = Propagated::of(rt, alloc, &shown, workers, gate)?;
+        let network = SessionNetwork::of(alloc, net, workers)?;
+        let propagated = Propagated::of(rt, alloc, &network, gate)?;
         Ok(Session {
-            net,
-            shown,
-            workers,
-            opened: Some(opened),
-            unedited: true,
+            network,
+            propagated: Some(propagated),
         })
     }
 
@@ -107,77 +99,27 @@ impl Session {
         ensures answers { AnswersEdit self.old.state edit.now result self.new.state }
         ensures workers { self.new.workers ≡ self.old.workers }
     {
-        if self.opened.is_none() {
-            return Err(SessionFault::Broken);
-        }
-        match self.net.apply(alloc, edit) {
-            Ok(mut new) => self.follow_shown(rt, alloc, edit, &mut new, gate),
-            Err(EditFault::OutOfMemory) => {
-                self.opened = None;
-                Err(SessionFault::OutOfMemory)
-            }
-            Err(cause) => Err(SessionFault::Edit(cause)),
-        }
-    }
-
-    /// Makes the shown form of the network that an edit makes, and follows the edit.
-    fn follow_shown<R: Threads + Sync, G: Gate>(
-        &mut self,
-        rt: &R,
-        alloc: Global,
-        edit: &Edit,
-        new: &mut Network,
-        gate: &G,
-    ) -> Result<Report, SessionFault>
-        requires open { IsOpen self.old.state }
-        requires made { edited self.old.state.net edit.now ≡ Ok new.old }
-        requires plan { IsPlan new.old }
-        requires numbers { HasPlanNumbers self.old.state.net → HasPlanNumbers new.old }
-        ensures answers { AnswersEdit self.old.state edit.now result self.new.state }
-        ensures workers { self.new.workers ≡ self.old.workers }
-    {
-        let Ok(mut shown) = new.shown(alloc) else {
-            self.opened = None;
-            return Err(SessionFault::OutOfMemory);
-        };
-        self.follow(rt, alloc, edit, new, &mut shown, gate)
-    }
-
-    /// Takes the network that an edit makes and its shown form as its own, in exchange for the old
-    /// ones, when the derivations have followed.
-    fn follow<R: Threads + Sync, G: Gate>(
-        &mut self,
-        rt: &R,
-        alloc: Global,
-        edit: &Edit,
-        new: &mut Network,
-        shown: &mut Network,
-        gate: &G,
-    ) -> Result<Report, SessionFault>
-        requires open { IsOpen self.old.state }
-        requires made { edited self.old.state.net edit.now ≡ Ok new.old }
-        requires plan { IsPlan new.old }
-        requires numbers { HasPlanNumbers self.old.state.net → HasPlanNumbers new.old }
-        requires shown { shown.old ≡ shown_form new.old }
-        ensures answers { AnswersEdit self.old.state edit.now result self.new.state }
-        ensures workers { self.new.workers ≡ self.old.workers }
-    {
-        law_edits_withdraw_nodes();
-        law_shown_forms_follow_edits();
-        self.net.sound();
-        let Some(opened) = &mut self.opened else {
+        let Some(propagated) = self.propagated.take() else {
             return Err(SessionFault::Broken);
         };
-        match opened.follow(rt, alloc, &self.shown, edit, shown, self.workers, gate) {
-            Ok(report) => {
-                mem::swap(&mut self.net, new);
-                mem::swap(&mut self.shown, shown);
-                self.unedited = false;
+        match self.network.edited(alloc, edit) {
+            Ok(network) => {
+                let (propagated, report) = propagated.follow(
+                    rt,
+                    alloc,
+                    &self.network,
+                    edit,
+                    &network,
+                    gate,
+                )?;
+                self.network = network;
+                self.propagated = Some(propagated);
                 Ok(report)
             }
-            Err(AllocError) => {
-                self.opened = None;
-                Err(SessionFault::OutOfMemory)
+            Err(EditFault::OutOfMemory) => Err(SessionFault::OutOfMemory),
+            Err(cause) => {
+                self.propagated = Some(propagated);
+                Err(SessionFault::Edit(cause))
             }
         }
     }
@@ -195,10 +137,9 @@ impl Session {
         ensures answers { AnswersReopening self.old.state result self.new.state }
         ensures workers { self.new.workers ≡ self.old.workers }
     {
-        self.opened = None;
-        let opened = Propagated::of(rt, alloc, &self.shown, self.workers, gate)?;
-        self.opened = Some(opened);
-        self.unedited = true;
+        self.propagated = None;
+        let propagated = Propagated::of(rt, alloc, &self.network, gate)?;
+        self.propagated = Some(propagated);
         Ok(())
     }
 
@@ -207,12 +148,10 @@ impl Session {
     pub fn verdict(&self) -> Verdict
         ensures { IsVerdictOf self.now.state result }
     {
-        law_controllable_is_shown();
-        self.net.sound();
-        match &self.opened {
+        match &self.propagated {
             None => Verdict::Broken,
-            Some(opened) => {
-                if opened.is_controllable(&self.shown) {
+            Some(propagated) => {
+                if propagated.is_controllable(&self.network) {
                     Verdict::Controllable
                 } else {
                     Verdict::NotControllable
@@ -236,40 +175,9 @@ impl Session {
             → IfOk result (λ cert. cert ≡ other) }
     {
         law_certificates_are_one();
-        law_controllable_is_shown();
-        self.net.sound();
-        match self.verdict() {
-            Verdict::Broken => Err(AskFault::Broken),
-            Verdict::Controllable => Ok(self.table_proof(alloc)?),
-            Verdict::NotControllable => Ok(self.refutation(rt, alloc)?),
-        }
-    }
-
-    /// The table proof by the closure that the session has.
-    fn table_proof(&self, alloc: Global) -> Result<Certificate, AllocError>
-        requires open { IsOpen self.now.state }
-        requires controllable { IsControllable (shown_form self.now.state.net) }
-        ensures { IfOk result (Proves (shown_form self.now.state.net)) }
-    {
-        match &self.opened {
-            None => unreachable!(),
-            Some(opened) => opened.table_proof(alloc, &self.shown),
-        }
-    }
-
-    /// The refutation by the rounds from the base: those of the session, if no edit came after
-    /// them, else new ones.
-    fn refutation<R: Threads + Sync>(
-        &self,
-        rt: &R,
-        alloc: Global,
-    ) -> Result<Certificate, AllocError>
-        requires { ¬ IsControllable (shown_form self.now.state.net) }
-        ensures { IfOk result (Refutes (shown_form self.now.state.net)) }
-    {
-        match &self.opened {
-            Some(opened) if self.unedited => opened.refutation(alloc, &self.shown),
-            _ => refute(rt, alloc, &self.shown, self.workers, &NoGate),
+        match &self.propagated {
+            None => Err(AskFault::Broken),
+            Some(propagated) => Ok(propagated.certificate(rt, alloc, &self.network)?),
         }
     }
 
@@ -280,11 +188,9 @@ impl Session {
         requires controllable { IsControllable self.now.state.net }
         ensures { IfOk result (IsDispatchOfClosure (shown_form self.now.state.net)) }
     {
-        law_controllable_is_shown();
-        self.net.sound();
-        match &self.opened {
+        match self.kept().dispatch(alloc, &self.network)? {
+            Some(dispatch) => Ok(dispatch),
             None => unreachable!(),
-            Some(opened) => opened.dispatch(alloc, &self.shown),
         }
     }
 
@@ -292,14 +198,14 @@ impl Session {
     pub fn network(&self) -> &Network
         ensures { result.now ≡ self.now.state.net }
     {
-        &self.net
+        self.network.stated()
     }
 
     /// The shown form of the network as it stands, whatever the session's state.
     pub fn shown(&self) -> &Network
         ensures { result.now ≡ shown_form self.now.state.net }
     {
-        &self.shown
+        self.network.shown()
     }
 
     /// The derivation list of the shown form with its table, of a session that is not broken.
@@ -307,9 +213,18 @@ impl Session {
         requires { IsOpen self.now.state }
         ensures { Lends self.now.state result.now }
     {
-        match &self.opened {
+        self.kept().store()
+    }
+
+    /// What a session that is not broken keeps of its network.
+    fn kept(&self) -> &Propagated
+        requires { IsOpen self.now.state }
+        ensures opened { self.now.state.opened ≡ Some (opened_of result.now) }
+        ensures kept { IsKept self.now.state.net result.now }
+    {
+        match &self.propagated {
             None => unreachable!(),
-            Some(opened) => opened.store(),
+            Some(propagated) => propagated,
         }
     }
 
@@ -318,15 +233,7 @@ impl Session {
         ensures stated { result.0 ≡ self.state.net }
         ensures shown { result.1 ≡ shown_form self.state.net }
     {
-        let Session { net, shown, .. } = self;
-        (net, shown)
-    }
-
-    /// The network as it stands; the session ends.
-    pub fn into_network(self) -> Network
-        ensures { result ≡ self.state.net }
-    {
-        let Session { net, .. } = self;
-        net
+        let Session { network, .. } = self;
+        network.into_networks()
     }
 }

@@ -4,9 +4,9 @@
 ghost use Rattle.std.specs.Prelude.{◌≡◌, ◌≤◌, ◌++◌, option_map, IfOk, IfSome, OnOk};
 ghost use Rattle.net_model.specs.ShownForm.{shown_form};
 ghost use Rattle.cert_checker.specs.Judgement.{judgement_of};
-ghost use Rattle.strategy_model.specs.Control.{IsControllable};
 ghost use Rattle.refutation_certificates.specs.Refutations.{Refutes};
 ghost use Rattle.closure_certificates.specs.Certified.{Proves};
+ghost use Rattle.dispatch_net.specs.OfClosure.{IsDispatchOfClosure};
 ghost use Rattle.situation_player.specs.ForgedParts.{most_tasks};
 ghost use Rattle.play_command.specs.ForgeCommand.{PutsAfter, IsLastMoment, PrintsControllable};
 ghost use Rattle.play_command.specs.ForgeCommand.{PrintsForged, PrintsRefuted, PrintsVerdict};
@@ -22,6 +22,7 @@ use cert_format::Certificate;
 use command_contracts::{NoInput, NoInputEnd, Request, WorkerCount, count_within, number_within};
 use command_engine::{Answer, Word};
 use command_words::{Arguments, Syntax};
+use dispatch_net::Dispatch;
 use net_model::Network;
 use plan_session::OpenSession;
 use situation_player::{MOST_TASKS, forge};
@@ -160,29 +161,30 @@ fn print_verdict<R: Threads + Sync>(
     law_controllable_is_shown();
     session.network().sound();
     let certificate = session.certificate(rt, alloc)?;
-    if session.is_controllable() {
-        print_controllable(rt, alloc, answer, session, &certificate)
-    } else {
-        print_refuted(rt, alloc, answer, session.network(), &certificate)
+    match session.dispatch(alloc)? {
+        Some(dispatch) => { print_controllable(rt, alloc, answer, session, dispatch, &certificate) }
+        None => print_refuted(rt, alloc, answer, session.network(), &certificate),
     }
 }
 
 /// Puts that the network of a session is controllable, how many entries its table proof has, the
-/// last moment of its longest day, and what the judge says of the proof.
+/// last moment of its longest day, by its dispatchable network, and what the judge says of the
+/// proof.
 fn print_controllable<R: Threads + Sync>(
     rt: &R,
     alloc: Global,
     answer: &mut Answer,
     session: &OpenSession,
+    dispatch: Dispatch,
     certificate: &Certificate,
 ) -> Result<NoInputEnd, AllocError>
-    requires controllable { IsControllable session.now.state.net }
+    requires dispatches { IsDispatchOfClosure (shown_form session.now.state.net) dispatch }
     requires proves { Proves (shown_form session.now.state.net) certificate.now }
     ensures { IfOk result (λ end. PutsAfter
         (λ more. PrintsControllable (shown_form session.now.state.net) more end) answer.old.text
         answer.new.text) }
 {
-    let last = last_moment(alloc, session)?;
+    let last = last_moment(alloc, session.shown(), dispatch)?;
     push_controllable(answer, certificate, last)?;
     push_judged(rt, alloc, answer, session.network(), certificate)?;
     Ok(NoInputEnd::Printed)
@@ -227,16 +229,16 @@ fn push_refuted(answer: &mut Answer, certificate: &Certificate) -> Result<(), Al
     push_count(answer, "lines", size_of(certificate) as u64)
 }
 
-/// The last moment of the longest day of the network of a session, which is controllable.
-fn last_moment(alloc: Global, session: &OpenSession) -> Result<u64, AllocError>
-    requires { IsControllable session.now.state.net }
-    ensures { IfOk result (IsLastMoment (shown_form session.now.state.net)) }
+/// The last moment of the longest day of a network without a delay, by the dispatchable network of
+/// its closure.
+fn last_moment(alloc: Global, net: &Network, dispatch: Dispatch) -> Result<u64, AllocError>
+    requires no_delay { net.now.delay ≡ 0 }
+    requires dispatches { IsDispatchOfClosure net.now dispatch }
+    ensures { IfOk result (IsLastMoment net.now) }
 {
-    let shown = session.shown();
-    shown.sound();
-    let dispatch = session.dispatch(alloc)?;
-    let longest = WhichSituation::Longest.situation(alloc, shown)?;
-    let schedule = played(alloc, shown, dispatch, &longest)?;
+    net.sound();
+    let longest = WhichSituation::Longest.situation(alloc, net)?;
+    let schedule = played(alloc, net, dispatch, &longest)?;
     Ok(greatest_of(schedule.as_slice()))
 }
 

@@ -12,6 +12,7 @@ use Rattle.edit_script.specs.declared.step.Step.TheVariants as step
 use Rattle.dispatch_net.specs.OfClosure.{IsDispatchOfClosure}
 use Rattle.plan_session.specs.Sessions.{State, Accepts, IsOpenedOn}
 use Rattle.plan_session.specs.declared.answers.Report.{Report}
+use Rattle.session_command.specs.EditHistory.{IsDispatchedByClosure}
 use Rattle.session_command.specs.Followed.{EditsMake, FollowsEdits, HasFollowed, IsReport}
 use Rattle.session_command.specs.SessionAnswers.{table_text, ok_line, refused_line}
 use Rattle.session_command.specs.Sessions.{net_of, SaysEdit, SaysTable, StandsAfterEdit, StandsAfter}
@@ -129,5 +130,7 @@ pub refused_stands : (standing : Standing) (edit : Edit) (cause : EditFault) →
 refused_stands standing edit cause refused = subst (λ (r : Result Plan EditFault). StandsAfterEdit standing edit r standing) (sym refused) refl
 
 -- the table that is put
-pub table_said : (net : Plan) (dispatch : DispatchLists) (put : List ℕ) → IsControllable net → IsDispatchOfClosure (shown_form net) dispatch → put ≡ table_text (shown_form net) dispatch.kept → SaysTable net put
-table_said net dispatch put controls is puts = inl (controls, (is.table, is.closure, puts ∙ ap (table_text (shown_form net)) (is.by.kept ∙ is.by.made)))
+pub table_said : (net shown : Plan) (dispatch : DispatchLists) (put : List ℕ) → IsDispatchedByClosure net (Some (shown, dispatch)) → put ≡ table_text shown dispatch.kept → SaysTable net put
+table_said net shown dispatch put (controls, same, is) puts =
+    let by : IsDispatchOfClosure (shown_form net) dispatch = subst (λ (n : Plan). IsDispatchOfClosure n dispatch) same is in
+    inl (controls, (by.table, by.closure, puts ∙ (ap (λ (n : Plan). table_text n dispatch.kept) same ∙ ap (table_text (shown_form net)) (by.by.kept ∙ by.by.made))))

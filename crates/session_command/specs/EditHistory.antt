@@ -5,6 +5,7 @@ use Rattle.net_model.specs.ShownForm.{shown_form}
 use Rattle.net_model.specs.declared.edit.Edit.{Edit}
 use Rattle.strategy_model.specs.Control.{IsControllable}
 use Rattle.dispatch_net.specs.Dispatchable.{DispatchLists}
+use Rattle.dispatch_net.specs.OfClosure.{IsDispatchOfClosure}
 use Rattle.forward_executor.specs.ForwardExecutions.{IsForwardDispatch}
 use Rattle.session_command.specs.Followed.{AreAccepted, EditsMake, Past}
 use Rattle.session_command.specs.declared.derivations.Derived.{Derived}
@@ -49,3 +50,8 @@ pub record IsKept (net : Plan) (verdict : Option Bool) (past : Option Past) : Ty
 abbrev pub IsDispatched : Plan → Option (Plan × DispatchLists) → Type 0
 IsDispatched net (Some (shown, dispatch)) = IsControllable net × (shown ≡ shown_form net) × IsForwardDispatch shown dispatch
 IsDispatched net None = ¬ IsControllable net
+
+-- its shown form with the dispatchable network of the closure of that, exactly if the network is controllable
+abbrev pub IsDispatchedByClosure : Plan → Option (Plan × DispatchLists) → Type 0
+IsDispatchedByClosure net (Some (shown, dispatch)) = IsControllable net × (shown ≡ shown_form net) × IsDispatchOfClosure shown dispatch
+IsDispatchedByClosure net None = ¬ IsControllable net

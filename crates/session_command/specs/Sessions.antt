@@ -86,14 +86,6 @@ SaysStep standing step.Report answer = SaysReport standing.first standing.edits 
 SaysStep standing step.Go answer = (¬ IsControllable (net_of standing)) × (answer ≡ refuted_line)
 SaysStep standing step.End answer = ⊥
 
--- what a line states is a question about the network as it stands, or nothing
-abbrev pub IsQuestion : Step → Type 0
-IsQuestion step.Go = ⊥
-IsQuestion step.Report = ⊥
-IsQuestion step.End = ⊥
-IsQuestion (step.Edit edit) = ⊥
-IsQuestion step_stated = Unit {0}
-
 -- ---- how it stands after the line
 -- after an accepted edit, which makes this network, a plan: the edit is the last of the accepted ones
 pub record StandsEdited (before : Standing) (edit : Edit) (net : Plan) (after : Standing) : Type 0 where

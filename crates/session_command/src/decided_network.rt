@@ -1,27 +1,23 @@
 //! What a session asks of its network as it stands: whether it is controllable, the certificate that
 //! decides it, and by what it is executed.
 
-ghost use Rattle.std.specs.Prelude.{◌≡◌, ◌≤◌, IfOk};
+ghost use Rattle.std.specs.Prelude.{◌≤◌, IfOk};
 ghost use Rattle.net_model.specs.ShownForm.{shown_form};
-ghost use Rattle.strategy_model.specs.Control.{IsControllable};
 ghost use Rattle.closure_certificates.specs.Certified.{Certifies};
-ghost use Rattle.refutation_certificates.specs.Refutations.{Refutes};
 ghost use Rattle.work_board.specs.Limits.{most_seats};
-ghost use Rattle.dispatch_net.specs.OfClosure.{IsDispatchOfClosure};
-ghost use Rattle.session_command.specs.EditHistory.{IsDispatched, IsVerdict};
+ghost use Rattle.session_command.specs.EditHistory.{IsDispatched, IsDispatchedByClosure, IsVerdict};
 
 use cert_format::Certificate;
-use closure_laws::laws::law_cycles_of_tables_exclude;
+use closure_laws::laws::{law_cycles_of_tables_exclude, law_ordered_closures_are_controllable};
 use dispatch_net::Dispatch;
 use dispatch_net::laws::law_closures_may_dispatch;
 use net_model::Network;
-use net_model::laws::law_shown_without_delay_is_same;
 use network_closure::close;
 use parallel_rounds::NoGate;
 use std::alloc::{AllocError, Global};
 use std::thread::Threads;
 use strategy_model::laws::shown::law_controllable_is_shown;
-use verdicts::{dispatch_by, forward_table_if_controllable, prove, refute};
+use verdicts::{certify_by_closure, certify_by_rounds, dispatch_by, forward_table_if_controllable};
 
 /// Whether a network is controllable, by a forward closed table of its shown form, which so many
 /// workers test. `AllocError` comes only for want of memory.
@@ -66,30 +62,34 @@ pub(crate) fn dispatch_if_controllable<R: Threads + Sync>(
     }
 }
 
-/// The dispatchable network of the closure of a network without a delay, which is controllable.
-/// `AllocError` comes only for want of memory.
+/// The shown form of a network with the dispatchable network of its closure, exactly if the network
+/// is controllable. `AllocError` comes only for want of memory.
 pub(crate) fn dispatch_of_closure<R: Threads + Sync>(
     rt: &R,
     alloc: Global,
     net: &Network,
     workers: u32,
-) -> Result<Dispatch, AllocError>
-    requires some { 1 ≤ workers }
-    requires no_delay { net.now.delay ≡ 0 }
-    requires controllable { IsControllable net.now }
-    ensures { IfOk result (IsDispatchOfClosure net.now) }
+) -> Result<Option<(Network, Dispatch)>, AllocError>
+    requires { 1 ≤ workers }
+    ensures { IfOk result (IsDispatchedByClosure net.now) }
 {
-    law_cycles_of_tables_exclude();
     law_closures_may_dispatch();
+    law_controllable_is_shown();
+    law_cycles_of_tables_exclude();
+    law_ordered_closures_are_controllable();
     net.sound();
-    match close(rt, alloc, net, workers)? {
-        Some(closed) => Dispatch::of(alloc, net, &closed.table, closed.order.as_slice()),
-        None => unreachable!(),
+    let shown = net.shown(alloc)?;
+    match close(rt, alloc, &shown, workers)? {
+        Some(closed) => {
+            let dispatch = Dispatch::of(alloc, &shown, &closed.table, closed.order.as_slice())?;
+            Ok(Some((shown, dispatch)))
+        }
+        None => Ok(None),
     }
 }
 
-/// The certificate that decides the shown form of a network, whose verdict is known: the table
-/// proof by its closure, or the refutation by rounds. `AllocError` comes only for want of memory.
+/// The certificate that decides the shown form of a network: by its closure if the network is
+/// controllable, else by rounds. `AllocError` comes only for want of memory.
 pub(crate) fn certificate<R: Threads + Sync>(
     rt: &R,
     alloc: Global,
@@ -97,32 +97,12 @@ pub(crate) fn certificate<R: Threads + Sync>(
     controllable: bool,
     workers: u32,
 ) -> Result<Certificate, AllocError>
-    requires decided { IsVerdict net.now controllable }
-    requires workers { (1 ≤ workers) × (workers ≤ most_seats) }
+    requires { (1 ≤ workers) × (workers ≤ most_seats) }
     ensures { IfOk result (Certifies (shown_form net.now)) }
 {
     if controllable {
-        prove(rt, alloc, net, workers)
+        certify_by_closure(rt, alloc, net, workers)
     } else {
-        refute_shown(rt, alloc, net, workers)
+        certify_by_rounds(rt, alloc, net, workers, &NoGate)
     }
-}
-
-/// The certificate that refutes the shown form of a network, which is not controllable: that of the
-/// shown form itself, which is its own.
-fn refute_shown<R: Threads + Sync>(
-    rt: &R,
-    alloc: Global,
-    net: &Network,
-    workers: u32,
-) -> Result<Certificate, AllocError>
-    requires never { ¬ IsControllable net.now }
-    requires workers { (1 ≤ workers) × (workers ≤ most_seats) }
-    ensures { IfOk result (Refutes (shown_form net.now)) }
-{
-    law_controllable_is_shown();
-    law_shown_without_delay_is_same();
-    net.sound();
-    let shown = net.shown(alloc)?;
-    refute(rt, alloc, shown, workers, &NoGate)
 }

@@ -7,7 +7,7 @@ ghost use Rattle.session_command.specs.Followed.{AreAccepted, IsReport};
 use command_contracts::WorkerCount;
 use net_model::{Edit, Network};
 use parallel_rounds::NoGate;
-use plan_session::{OpenSession, Report};
+use plan_session::{Edited, OpenSession, Report};
 use std::alloc::{AllocError, Global};
 use std::marker::Model;
 use std::snapshot::Snapshot;
@@ -96,27 +96,25 @@ impl Derivations {
         self.report
     }
 
-    /// Follows one accepted edit.
+    /// Follows one edit, if it is accepted; a refused one changes nothing.
     fn follow<R: Threads + Sync>(
         self,
         rt: &R,
         alloc: Global,
         edit: &Edit,
     ) -> Result<Derivations, AllocError>
-        requires accepted { AreAccepted self.first (self.edits ++ edit.now ∷ []) }
         ensures first { IfOk result (λ derivations. derivations.first ≡ self.first) }
-        ensures edits { IfOk result (λ derivations. derivations.edits ≡ self.edits
-            ++ edit.now ∷ []) }
+        ensures edits { AreAccepted self.first (self.edits ++ edit.now ∷ []) → IfOk result
+            (λ derivations. derivations.edits ≡ self.edits ++ edit.now ∷ []) }
     {
         let Derivations {
             session,
+            report,
             first,
             mut followed,
-            ..
         } = self;
-        let (session, answer) = session.apply(rt, alloc, edit, &NoGate)?;
-        match answer {
-            Ok(report) => {
+        match session.apply(rt, alloc, edit, &NoGate)? {
+            Edited::Followed(session, report) => {
                 followed.push(Snapshot::of(edit))?;
                 Ok(Derivations {
                     session,
@@ -125,7 +123,12 @@ impl Derivations {
                     followed,
                 })
             }
-            Err(_) => unreachable!(),
+            Edited::Refused(session, _) => Ok(Derivations {
+                session,
+                report,
+                first,
+                followed,
+            }),
         }
     }
 }

@@ -4,10 +4,10 @@ ghost use Rattle.std.specs.Prelude.{◌≡◌, [], ◌∷◌, ◌++◌, Ok, IfOk
 ghost use Rattle.net_model.specs.EditedNetwork.{edited};
 ghost use Rattle.net_model.specs.Network.{IsPlan};
 ghost use Rattle.edit_script.specs.declared.step.Step.TheVariants as step;
-ghost use Rattle.session_command.specs.EditHistory.{IsDispatched, IsVerdict};
+ghost use Rattle.session_command.specs.EditHistory.{IsDispatched, IsDispatchedByClosure, IsVerdict};
 ghost use Rattle.session_command.specs.Followed.{IsReport};
-ghost use Rattle.session_command.specs.Sessions.{net_of, IsQuestion, OpensOn, SaysProof, SaysStep};
-ghost use Rattle.session_command.specs.Sessions.{SaysTable, StandsAfter};
+ghost use Rattle.session_command.specs.Sessions.{net_of, OpensOn, SaysProof, SaysStep};
+ghost use Rattle.session_command.specs.Sessions.{SaysTable, SaysVerdict, StandsAfter};
 
 use crate::decided_network::{
     certificate, dispatch_if_controllable, dispatch_of_closure, is_controllable,
@@ -19,7 +19,6 @@ use command_contracts::WorkerCount;
 use command_engine::{Answer, Word};
 use common_answers::push_verdict;
 use dispatch_net::Dispatch;
-use edit_script::Step;
 use net_model::{Edit, EditFault, Network};
 use plan_format::print_plan;
 use plan_session::Report;
@@ -27,7 +26,6 @@ use std::alloc::{AllocError, Global};
 use std::marker::Model;
 use std::mem;
 use std::thread::Threads;
-use strategy_model::laws::shown::law_controllable_is_shown;
 
 /// A session while its network is edited: the network as it stands, its verdict if that was asked
 /// for since the last accepted edit, and the accepted edits, if there are any. No derivations are
@@ -147,34 +145,29 @@ impl Editing {
         Ok(report)
     }
 
-    /// Puts the answer to a question about the network as it stands. `AllocError` comes only for
-    /// want of memory.
-    pub(crate) fn in_steps<R: Threads + Sync>(
+    /// Puts whether the network as it stands is controllable. `AllocError` comes only for want of
+    /// memory.
+    pub(crate) fn push_verdict<R: Threads + Sync>(
         &mut self,
         rt: &R,
         alloc: Global,
         answer: &mut Answer,
-        question: Step,
     ) -> Result<(), AllocError>
-        requires empty { answer.old.text ≡ [] }
-        requires question { IsQuestion question }
+        requires { answer.old.text ≡ [] }
         ensures same { self.new ≡ self.old }
-        ensures says { OnOk result (SaysStep self.old question answer.new.text) }
+        ensures says { OnOk result (SaysVerdict (net_of self.old) answer.new.text) }
     {
-        match question {
-            Step::Blank => Ok(()),
-            Step::Verdict => {
-                let yes = self.is_controllable(rt, alloc)?;
-                push_verdict(answer, yes)
-            }
-            Step::Proof => self.push_proof(rt, alloc, answer),
-            Step::Table => self.push_table(rt, alloc, answer),
-            Step::Plan => {
-                let text = print_plan(alloc, &self.net)?;
-                answer.push_text(text.as_slice())
-            }
-            Step::Edit(_) | Step::Report | Step::Go | Step::End => unreachable!(),
-        }
+        let yes = self.is_controllable(rt, alloc)?;
+        push_verdict(answer, yes)
+    }
+
+    /// Puts the network as it stands. `AllocError` comes only for want of memory.
+    pub(crate) fn push_plan(&self, alloc: Global, answer: &mut Answer) -> Result<(), AllocError>
+        requires { answer.old.text ≡ [] }
+        ensures { OnOk result (SaysStep self.now step.Plan answer.new.text) }
+    {
+        let text = print_plan(alloc, &self.net)?;
+        answer.push_text(text.as_slice())
     }
 
     /// The shown form of the network as it stands with its dispatchable network, exactly if some
@@ -209,8 +202,9 @@ impl Editing {
         Ok(yes)
     }
 
-    /// Puts the certificate that decides the shown form of the network as it stands.
-    fn push_proof<R: Threads + Sync>(
+    /// Puts the certificate that decides the shown form of the network as it stands. `AllocError`
+    /// comes only for want of memory.
+    pub(crate) fn push_proof<R: Threads + Sync>(
         &mut self,
         rt: &R,
         alloc: Global,
@@ -226,8 +220,8 @@ impl Editing {
         answer.push_text(text.as_slice())
     }
 
-    /// Puts by what each point is executed.
-    fn push_table<R: Threads + Sync>(
+    /// Puts by what each point is executed. `AllocError` comes only for want of memory.
+    pub(crate) fn push_table<R: Threads + Sync>(
         &mut self,
         rt: &R,
         alloc: Global,
@@ -237,13 +231,26 @@ impl Editing {
         ensures same { self.new ≡ self.old }
         ensures says { OnOk result (SaysTable (net_of self.old) answer.new.text) }
     {
-        if !self.is_controllable(rt, alloc)? {
-            return push_verdict(answer, false);
+        match self.dispatch_of_closure(rt, alloc)? {
+            Some((shown, dispatch)) => push_table(answer, &shown, &dispatch),
+            None => push_verdict(answer, false),
         }
-        law_controllable_is_shown();
-        self.net.sound();
-        let shown = self.net.shown(alloc)?;
-        let dispatch = dispatch_of_closure(rt, alloc, &shown, self.workers.number())?;
-        push_table(answer, &shown, &dispatch)
+    }
+
+    /// The shown form of the network as it stands with the dispatchable network of its closure,
+    /// exactly if some strategy controls it.
+    fn dispatch_of_closure<R: Threads + Sync>(
+        &mut self,
+        rt: &R,
+        alloc: Global,
+    ) -> Result<Option<(Network, Dispatch)>, AllocError>
+        ensures same { self.new ≡ self.old }
+        ensures dispatched { IfOk result (IsDispatchedByClosure (net_of self.old)) }
+    {
+        if self.is_controllable(rt, alloc)? {
+            dispatch_of_closure(rt, alloc, &self.net, self.workers.number())
+        } else {
+            Ok(None)
+        }
     }
 }

@@ -115,7 +115,7 @@ impl Command for InSession {
                     fault.put(answer);
                     Ok(Flow::Finish(fault.end()))
                 }
-                Err(WordFault::OutOfMemory) => unreachable!(),
+                Err(WordFault::OutOfMemory) => Err(AllocError),
             },
         }
     }
@@ -200,10 +200,23 @@ fn answer_step<R: Threads + Sync>(
             state.report(rt, alloc, answer)?;
             Ok(None)
         }
-        Step::Blank | Step::Verdict | Step::Proof | Step::Table | Step::Plan => {
-            state.in_steps(rt, alloc, answer, step)?;
+        Step::Verdict => {
+            state.push_verdict(rt, alloc, answer)?;
             Ok(None)
         }
+        Step::Proof => {
+            state.push_proof(rt, alloc, answer)?;
+            Ok(None)
+        }
+        Step::Table => {
+            state.push_table(rt, alloc, answer)?;
+            Ok(None)
+        }
+        Step::Plan => {
+            state.push_plan(alloc, answer)?;
+            Ok(None)
+        }
+        Step::Blank => Ok(None),
     }
 }
 

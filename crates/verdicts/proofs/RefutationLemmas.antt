@@ -1,5 +1,5 @@
 -- A network is answered in one way by its verdict: the certificate of its refutation is one.
-use Rattle.std.proofs.Common.{◌≡◌, inl, inr, sym, subst}
+use Rattle.std.proofs.Common.{inl, inr, subst}
 use Rattle.net_model.specs.Network.{Plan}
 use Rattle.net_model.specs.ShownForm.{shown_form}
 use Rattle.cert_format.specs.declared.certificate.Certificate.{Certificate}

@@ -1,61 +1,52 @@
-//! The certificates of a verdict that is known: that a network is controllable, by its closure, and
-//! that it is not, by rounds.
+//! The certificates that decide a network, by its closure or by rounds.
 
 ghost use Rattle.std.specs.Prelude.{◌≡◌, ◌≤◌, IfOk};
 ghost use Rattle.net_model.specs.ShownForm.{shown_form};
-ghost use Rattle.strategy_model.specs.Control.{IsControllable};
 ghost use Rattle.work_board.specs.Limits.{most_seats};
-ghost use Rattle.refutation_certificates.specs.Refutations.{Refutes};
-ghost use Rattle.closure_certificates.specs.Certified.{Proves};
+ghost use Rattle.closure_certificates.specs.Certified.{Certifies};
 
-use crate::closures::closure_of_controllable;
 use cert_format::Certificate;
-use closure_certificates::laws::law_table_proofs_prove;
-use closure_certificates::table_proof;
 use net_model::Network;
-use parallel_rounds::Gate;
+use network_closure::close;
+use network_refutation::{certify, prove};
+use parallel_rounds::{Gate, NoGate};
 use std::alloc::{AllocError, Global};
 use std::thread::Threads;
-use strategy_model::laws::shown::{law_controllable_is_shown, law_shown_form_is_instant};
 
-/// The certificate that proves the shown form of a network, which is controllable, by its closure,
-/// which so many workers test. `AllocError` comes only if memory is refused.
-pub fn prove<R: Threads + Sync>(
+/// The certificate that decides the shown form of a network, for those who expect it to be
+/// controllable: the table proof by its closure, which so many workers test, or, if the network is
+/// not controllable, the refutation by the rounds of one worker. `AllocError` comes only if memory
+/// is refused.
+pub fn certify_by_closure<R: Threads + Sync>(
     rt: &R,
     alloc: Global,
     net: &Network,
     workers: u32,
 ) -> Result<Certificate, AllocError>
-    requires some { 1 ≤ workers }
-    requires controllable { IsControllable net.now }
-    ensures { IfOk result (Proves (shown_form net.now)) }
+    requires { 1 ≤ workers }
+    ensures { IfOk result (Certifies (shown_form net.now)) }
 {
-    law_controllable_is_shown();
-    law_shown_form_is_instant();
-    law_table_proofs_prove();
-    net.sound();
     let shown = net.shown(alloc)?;
-    let closed = closure_of_controllable(rt, alloc, &shown, workers)?;
-    table_proof(alloc, &shown, &closed.table, closed.order.as_slice())
+    match close(rt, alloc, &shown, workers)? {
+        Some(closed) => prove(alloc, &shown, &closed.table, closed.order.as_slice()),
+        None => certify(rt, alloc, &shown, 1, &NoGate),
+    }
 }
 
-/// The certificate that refutes the shown form of a network, which is not controllable, by the
-/// rounds of so many workers, 1 to 64; the gate is called before each row. `AllocError` comes only
-/// if memory is refused.
-pub fn refute<R: Threads + Sync, G: Gate>(
+/// The certificate that decides the shown form of a network, for those who expect it not to be
+/// controllable: the refutation by the rounds of so many workers, 1 to 64, or the table proof if
+/// these close the table; the gate is called before each row. `AllocError` comes only if memory is
+/// refused.
+pub fn certify_by_rounds<R: Threads + Sync, G: Gate>(
     rt: &R,
     alloc: Global,
-    net: Network,
+    net: &Network,
     workers: u32,
     gate: &G,
 ) -> Result<Certificate, AllocError>
-    requires never { ¬ IsControllable net }
-    requires workers { (1 ≤ workers) × (workers ≤ most_seats) }
-    ensures { IfOk result (Refutes (shown_form net)) }
+    requires { (1 ≤ workers) × (workers ≤ most_seats) }
+    ensures { IfOk result (Certifies (shown_form net.now)) }
 {
-    law_controllable_is_shown();
-    law_shown_form_is_instant();
-    net.sound();
     let shown = net.shown(alloc)?;
-    network_refutation::refute(rt, alloc, &shown, workers, gate)
+    certify(rt, alloc, &shown, workers, gate)
 }

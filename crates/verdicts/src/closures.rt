@@ -3,8 +3,6 @@
 ghost use Rattle.std.specs.Prelude.{◌≡◌, ◌≤◌, IfOk};
 ghost use Rattle.cell_table.specs.Limits.{key_count, most_keys};
 ghost use Rattle.work_board.specs.Limits.{most_seats};
-ghost use Rattle.network_closure.specs.Saturation.{IsClosedBy};
-ghost use Rattle.strategy_model.specs.Control.{IsControllable};
 ghost use Rattle.verdicts.specs.Decisions.{IsDecidedBy, IsOrderedClosure};
 
 use cell_table::close_by_cells;
@@ -55,24 +53,4 @@ pub(crate) fn closure_by_cells<R: Threads + Sync>(
     law_cycles_of_tables_exclude();
     net.sound();
     close_by_cells(rt, alloc, net, workers)
-}
-
-/// The closure of a controllable network without a delay, with the order of its placed points.
-pub(crate) fn closure_of_controllable<R: Threads + Sync>(
-    rt: &R,
-    alloc: Global,
-    net: &Network,
-    workers: u32,
-) -> Result<Closed, AllocError>
-    requires some { 1 ≤ workers }
-    requires no_delay { net.now.delay ≡ 0 }
-    requires controllable { IsControllable net.now }
-    ensures { IfOk result (IsClosedBy net.now) }
-{
-    law_cycles_of_tables_exclude();
-    net.sound();
-    match close(rt, alloc, net, workers)? {
-        Some(closed) => Ok(closed),
-        None => unreachable!(),
-    }
 }

@@ -7,6 +7,6 @@ mod closures;
 mod deciding_tables;
 mod verdict;
 
-pub use certificates::{prove, refute};
+pub use certificates::{certify_by_closure, certify_by_rounds};
 pub use deciding_tables::{DecidingTable, dispatch_by, forward_table_if_controllable};
 pub use verdict::{Verdict, decide, decide_by_cells, decide_by_closure};

@@ -7,7 +7,7 @@ ghost use Rattle.work_board.specs.Limits.{most_seats};
 ghost use Rattle.verdicts.specs.Decisions.{IsDecidedBy, IsOrderedClosure, IsOrderedForwardTable};
 ghost use Rattle.verdicts.specs.Verdict.{IsVerdictBy, refutation_of};
 
-use crate::certificates::refute;
+use crate::certificates::certify_by_rounds;
 use crate::closures::{closure_by_cells, closure_if_controllable};
 use crate::deciding_tables::{DecidingTable, forward_table_if_controllable};
 use cert_format::Certificate;
@@ -114,7 +114,7 @@ fn verdict_by<R: Threads + Sync, G: Gate, T: DecidingTable>(
             closed,
         }),
         None => {
-            let certificate = refute(rt, alloc, net, workers, gate)?;
+            let certificate = certify_by_rounds(rt, alloc, &net, workers, gate)?;
             Ok(Verdict::Refuted(certificate))
         }
     }

@@ -15,10 +15,10 @@ returns-in_ok-dispatch-in-Some g c =
     let shown = c.in_ok-shown.shown in
     let closed = c.in-Some.closed in
     let decided = subst (IsDecidedBy IsOrderedForwardTable shown) c.in-Some.is c.in_ok-closed.ensures in (
-      table_says c.law_controllable_is_shown.ensures c.args.net.now shown c.sound.ensures c.in_ok-shown.ensures _ closed c.in_ok-closed.ensures c.in-Some.is,
+      table_says c.law_controllable_is_shown.ensures c.args.net.now shown c.sound.ensures c.in_ok-shown.ensures IsOrderedForwardTable _ closed c.in_ok-closed.ensures c.in-Some.is,
       c.in_ok-shown.ensures,
       forward_dispatch shown closed _ decided.1 c.in_ok-dispatch-in-Some.ensures,
     )
 
 pub returns-in-None : goal.returns-in-None
-returns-in-None g c = none_says c.law_controllable_is_shown.ensures c.args.net.now c.in_ok-shown.shown c.sound.ensures c.in_ok-shown.ensures _ c.in_ok-closed.ensures c.in-None.is
+returns-in-None g c = none_says c.law_controllable_is_shown.ensures c.args.net.now c.in_ok-shown.shown c.sound.ensures c.in_ok-shown.ensures IsOrderedForwardTable _ c.in_ok-closed.ensures c.in-None.is

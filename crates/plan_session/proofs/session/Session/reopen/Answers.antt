@@ -1,12 +1,9 @@
-use Rattle.std.proofs.Common.{Some, ap, subst, ◌∙◌}
-use Rattle.net_model.specs.Network.{Plan}
-use Rattle.net_model.specs.ShownForm.{shown_form}
-use Rattle.plan_session.specs.Sessions.{State, SessionView, Opens}
+use Rattle.std.proofs.Common.{refl, subst}
+use Rattle.plan_session.specs.Kept.{opened_of}
+use Rattle.plan_session.specs.Sessions.{IsOpenedOn, SessionView, open_state}
 use Rattle.plan_session.proofs.session.Session.reopen.Goals as goal
 
 pub returns-clause-answers : goal.returns-clause-answers
 returns-clause-answers g c =
-    let opened = c.in_ok-opened.opened in
-    let shown_is = c.self.invariant.shown_is ∙ ap (λ (session : SessionView). shown_form session.state.net) c.self.view_is in
-    let opens = subst (λ (net : Plan). Opens net opened) shown_is c.in_ok-opened.ensures in
-    (opened, opens, ap (λ (session : SessionView). let state : State = record { net = session.state.net; opened = Some opened } in state) c.self.view_is)
+    let opened = opened_of c.in_ok-propagated.propagated in
+    subst (λ (session : SessionView). IsOpenedOn session.state.net (open_state c.self.inside.network.net opened)) c.self.view_is (opened, c.in_ok-propagated.ensures.opened, refl)

@@ -1,83 +1,83 @@
-//! The refutation of a network by rounds from its base.
+//! The certificate that decides a network, by rounds from its base.
 
 ghost use Rattle.std.specs.Prelude.{◌≡◌, ◌≤◌, IfOk, IfSome};
-ghost use Rattle.strategy_model.specs.Control.{IsControllable};
 ghost use Rattle.closure_model.specs.Derivations.{base_support};
 ghost use Rattle.work_board.specs.Limits.{most_seats};
 ghost use Rattle.parallel_rounds.specs.Propagated.{IsPropagated};
-ghost use Rattle.refutation_certificates.specs.Refutations.{Refutes};
+ghost use Rattle.closure_certificates.specs.Certified.{Certifies};
 
+use crate::proving::prove;
 use cert_format::Certificate;
-use closure_laws::laws::law_ordered_closures_are_controllable;
-use derivation_dag::{Plain, Pruned};
+use closure_laws::laws::law_standing_cycles_exclude;
+use derivation_dag::{Plain, Pruned, Supports};
 use net_model::Network;
 use parallel_rounds::{Gate, Outcome, propagate};
 use refutation_certificates::{refutation, refutation_if_held};
 use std::alloc::{AllocError, Global};
 use std::thread::Threads;
 
-/// The certificate that refutes a network without a delay, which is not controllable, by the rounds
-/// of so many workers from its base, 1 to 64; the gate is called before each row. Of the derivation
-/// list that only is held that the rounds still need, which is no clause. `AllocError` comes only
-/// for want of memory.
-pub fn refute<R: Threads + Sync, G: Gate>(
+/// The certificate that decides a network without a delay, by the rounds of so many workers from
+/// its base, 1 to 64: the table proof if they close the table, else the refutation by their cycle.
+/// The gate is called before each row. Of the derivation list that only is held that the rounds
+/// still need, which is no clause. `AllocError` comes only for want of memory.
+pub fn certify<R: Threads + Sync, G: Gate>(
     rt: &R,
     alloc: Global,
     net: &Network,
     workers: u32,
     gate: &G,
 ) -> Result<Certificate, AllocError>
-    requires never { ¬ IsControllable net.now }
     requires no_delay { net.now.delay ≡ 0 }
     requires workers { (1 ≤ workers) × (workers ≤ most_seats) }
-    ensures { IfOk result (Refutes net.now) }
+    ensures { IfOk result (Certifies net.now) }
 {
     let mut store = Pruned::of(alloc, net)?;
     let outcome = propagate(rt, alloc, net, &mut store, workers, gate)?;
-    match refuted(alloc, net, &store, &outcome)? {
+    match certificate_if_held(alloc, net, &store, &outcome)? {
         Some(certificate) => Ok(certificate),
-        None => refute_whole(rt, alloc, net, workers, gate),
+        None => certify_by_whole_list(rt, alloc, net, workers, gate),
     }
 }
 
-/// The refutation by rounds that ended, if the store holds what it takes.
-fn refuted(
+/// The certificate by rounds that ended, if the store holds what it takes.
+fn certificate_if_held(
     alloc: Global,
     net: &Network,
     store: &Pruned,
     outcome: &Outcome,
 ) -> Result<Option<Certificate>, AllocError>
-    requires never { ¬ IsControllable net.now }
     requires no_delay { net.now.delay ≡ 0 }
     requires propagated { IsPropagated net.now (base_support net.now) store.now outcome.now }
-    ensures { IfOk result (λ held. IfSome held (Refutes net.now)) }
+    ensures { IfOk result (λ held. IfSome held (Certifies net.now)) }
 {
-    law_ordered_closures_are_controllable();
+    law_standing_cycles_exclude();
     net.sound();
     match outcome {
-        Outcome::Closed { .. } => unreachable!(),
+        Outcome::Closed { order, .. } => {
+            let certificate = prove(alloc, net, store.table(), order.as_slice())?;
+            Ok(Some(certificate))
+        }
         Outcome::Looped { cycle, .. } => refutation_if_held(alloc, net, store, cycle.as_slice()),
     }
 }
 
 /// The same by a store that holds the whole list.
-fn refute_whole<R: Threads + Sync, G: Gate>(
+fn certify_by_whole_list<R: Threads + Sync, G: Gate>(
     rt: &R,
     alloc: Global,
     net: &Network,
     workers: u32,
     gate: &G,
 ) -> Result<Certificate, AllocError>
-    requires never { ¬ IsControllable net.now }
     requires no_delay { net.now.delay ≡ 0 }
     requires workers { (1 ≤ workers) × (workers ≤ most_seats) }
-    ensures { IfOk result (Refutes net.now) }
+    ensures { IfOk result (Certifies net.now) }
 {
-    law_ordered_closures_are_controllable();
+    law_standing_cycles_exclude();
     net.sound();
     let mut store = Plain::of(alloc, net)?;
     match propagate(rt, alloc, net, &mut store, workers, gate)? {
-        Outcome::Closed { .. } => unreachable!(),
+        Outcome::Closed { order, .. } => prove(alloc, net, store.table(), order.as_slice()),
         Outcome::Looped { cycle, .. } => {
             refutation(alloc, net, &store, store.dag(), cycle.as_slice())
         }
