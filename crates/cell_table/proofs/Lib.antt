@@ -5,6 +5,7 @@ pub mod EndLemmas
 pub mod FillLemmas
 pub mod TakeLemmas
 pub mod CloseLemmas
+pub mod NoteLemmas
 pub mod SweepLemmas
 pub mod SettleLemmas
 pub mod HistoryLemmas

@@ -10,5 +10,6 @@ pub mod CellHistory
 pub mod Faults
 pub mod FinalTables
 pub mod SweepSeats
+pub mod SweepProgress
 pub mod Settlement
 pub mod Laws

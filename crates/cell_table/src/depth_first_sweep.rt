@@ -1,20 +1,17 @@
 //! One worker's part of a sweep.
 
-ghost use Rattle.std.specs.Prelude.{◌≡◌, ◌<◌, length, Some, IfSome, OnOk, IfOk, slice_get};
-ghost use Rattle.closure_model.specs.Derivable.{IsDerivable};
-ghost use Rattle.closure_model.specs.Keys.{shape_of};
+ghost use Rattle.std.specs.Prelude.{◌≡◌, ◌+◌, ◌<◌, ◌≤◌, length, IfOk, OnOk};
 ghost use Rattle.cell_table.specs.SweepSeats.{IsAt};
+ghost use Rattle.cell_table.specs.SweepProgress.{SweepGoesOn, StaysAt, left_of_frame, left_of_mark};
+ghost use Rattle.cell_table.specs.SweepProgress.{most_queued};
 
-use crate::cell_edges::{held, labelled, ordinary};
 use crate::cells::Cells;
 use crate::gate::CellGate;
-use crate::relaxation::{KeyQueue, enqueue, relax, settle_edge};
+use crate::relaxation::{KeyQueue, Relaxing, enqueue};
 use crate::seat::CellSeat;
-use net_model::{Edge, LinkId, Network, PointId};
-use network_closure::without_label;
+use net_model::{Network, PointId};
 use std::alloc::{AllocError, Global};
-use std::cmp::Reverse;
-use std::collections::BinaryHeap;
+use std::marker::Model;
 
 /// What the workers of a sweep share beside the cells: the network, how many workers there are, and
 /// the gate before each target.
@@ -61,204 +58,146 @@ pub(crate) fn sweep<G: CellGate>(
     requires workers { 0 < task.now.workers }
     ensures { IfOk result (IsAt task.now.net.now cells.now) }
 {
-    let Worker { number, mut seat } = worker;
-    let points = task.net.points().len() as u32;
-    let mut marks = vec![in alloc; Mark::New; points as usize]?;
-    for target in 0..points {
-        if target % task.workers != number {
-            continue;
+    let Worker { number, seat } = worker;
+    let mut depth_first = DepthFirst::of(alloc, Relaxing::of(task.net, cells, seat))?;
+    for target in 0..task.net.points().len() as u32 {
+        if target % task.workers == number {
+            task.gate.before(target);
+            let goes = depth_first.make(PointId(target))?;
+            if !goes {
+                break;
+            }
         }
-        task.gate.before(target);
-        let root = PointId(target);
-        let goes = relax_depth_first_from(
+    }
+    Ok(depth_first.into_seat())
+}
+
+/// Cells that one worker relaxes depth first: how far it is with the row of each point, and its
+/// rows in progress, each of which needs the next. Contracts see the network and
+/// the cells, and how much is left to do.
+#[derive(Drop)]
+struct DepthFirst<'a> {
+    alloc: Global,
+    relaxing: Relaxing<'a>,
+    marks: Vec<Mark>,
+    stack: Vec<Frame>,
+}
+
+impl<'a> Model for DepthFirst<'a> {
+    ghost use Rattle.std.specs.Prelude.{◌≡◌, length};
+    ghost use Rattle.std.specs.Coded.{codes};
+    ghost use Rattle.cell_table.specs.Seats.{cells_code};
+    ghost use Rattle.cell_table.specs.SweepProgress.{Sweep, depth_first_of};
+
+    ghost Value = { Sweep };
+
+    ghost coded = { Prim.hlevel (codes, cells_code) };
+
+    ghost view = { λ depth_first. depth_first_of depth_first.relaxing depth_first.marks.items
+        depth_first.stack.items };
+
+    ghost invariant = { λ depth_first. length depth_first.marks.items ≡ length
+        depth_first.relaxing.net.points };
+}
+
+impl<'a> DepthFirst<'a> {
+    /// Cells no row of which the worker has begun.
+    fn of(alloc: Global, relaxing: Relaxing<'a>) -> Result<DepthFirst<'a>, AllocError>
+        ensures { IfOk result (StaysAt relaxing.entry) }
+    {
+        let marks = vec![in alloc; Mark::New; relaxing.points() as usize]?;
+        Ok(DepthFirst {
             alloc,
-            cells,
-            task.net,
-            &mut seat,
-            marks.as_mut_slice(),
-            root,
-        )?;
-        if !goes {
-            return Ok(seat);
-        }
+            relaxing,
+            marks,
+            stack: Vec::new(alloc),
+        })
     }
-    Ok(seat)
-}
 
-/// Relaxes the row of a point, if this worker has not begun it, and first those that it needs. True
-/// unless it came to a row in progress.
-fn relax_depth_first_from(
-    alloc: Global,
-    cells: &Cells,
-    net: &Network,
-    seat: &mut CellSeat,
-    marks: &mut [Mark],
-    root: PointId,
-) -> Result<bool, AllocError>
-    requires at { IsAt net.now cells.now seat.old }
-    requires marks { length marks.old ≡ length net.now.points }
-    requires root { root.0 < length net.now.points }
-    ensures at { OnOk result (IsAt net.now cells.now seat.new) }
-    ensures marks { length marks.new ≡ length marks.old }
-{
-    let mut stack = Vec::new(alloc);
-    begin(alloc, cells, net, seat, marks, &mut stack, root)?;
-    for _turn in 0..u64::MAX {
-        match stack.pop() {
-            None => return Ok(true),
-            Some(frame) => {
-                let goes = turn(alloc, cells, net, seat, marks, &mut stack, frame)?;
-                if !goes {
-                    return Ok(false);
-                }
+    /// The worker's seat as it is.
+    fn into_seat(self) -> CellSeat
+        ensures { IsAt self.entry.net self.entry.cells result }
+    {
+        self.relaxing.into_seat()
+    }
+
+    /// Makes the row of a point, if this worker has not begun it, and first those that it needs.
+    /// True unless it came to a row in progress.
+    fn make(&mut self, root: PointId) -> Result<bool, AllocError>
+        requires { root.0 < length self.old.net.points }
+        ensures { StaysAt self.old self.new }
+    {
+        if self.meet(root) == Mark::New {
+            self.begin(root)?;
+        }
+        while let Some(frame) = self.stack.pop() {
+            let goes = self.turn(frame)?;
+            if !goes {
+                return Ok(false);
             }
         }
+        Ok(true)
     }
-    Ok(true)
-}
 
-/// Begins the row of a point, if it is not begun.
-fn begin(
-    alloc: Global,
-    cells: &Cells,
-    net: &Network,
-    seat: &mut CellSeat,
-    marks: &mut [Mark],
-    stack: &mut Vec<Frame>,
-    target: PointId,
-) -> Result<(), AllocError>
-    requires at { IsAt net.now cells.now seat.old }
-    requires marks { length marks.old ≡ length net.now.points }
-    requires target { target.0 < length net.now.points }
-    ensures at { OnOk result (IsAt net.now cells.now seat.new) }
-    ensures marks { length marks.new ≡ length marks.old }
-{
-    if marks[target.0 as usize] == Mark::New {
-        marks[target.0 as usize] = Mark::Open;
-        let queue = seeds(alloc, cells, net, seat, target)?;
-        stack.push(Frame { target, queue })?;
-    }
-    Ok(())
-}
-
-/// Settles the next key of a row, or begins the row that it needs. True unless it came to a row in
-/// progress.
-fn turn(
-    alloc: Global,
-    cells: &Cells,
-    net: &Network,
-    seat: &mut CellSeat,
-    marks: &mut [Mark],
-    stack: &mut Vec<Frame>,
-    frame: Frame,
-) -> Result<bool, AllocError>
-    requires at { IsAt net.now cells.now seat.old }
-    requires marks { length marks.old ≡ length net.now.points }
-    ensures at { OnOk result (IsAt net.now cells.now seat.new) }
-    ensures marks { length marks.new ≡ length marks.old }
-{
-    let Frame { target, mut queue } = frame;
-    match next(cells, net, seat, target, &mut queue) {
-        None => {
-            finish(marks, target);
-            Ok(true)
+    /// The mark of the row of a point, which is in progress from then on if it was not begun.
+    fn meet(&mut self, point: PointId) -> Mark
+        requires { point.0 < length self.old.net.points }
+        ensures at { StaysAt self.old self.new }
+        ensures left { self.new.left + left_of_mark result ≤ self.old.left }
+    {
+        let mark = self.marks[point.0 as usize];
+        if mark == Mark::New {
+            self.marks[point.0 as usize] = Mark::Open;
         }
-        Some(edge) => match marks[edge.from.0 as usize] {
-            Mark::Open => Ok(false),
-            Mark::New => {
-                enqueue(&mut queue, &edge)?;
-                stack.push(Frame { target, queue })?;
-                begin(alloc, cells, net, seat, marks, stack, edge.from)?;
+        mark
+    }
+
+    /// Begins the row of a point.
+    fn begin(&mut self, target: PointId) -> Result<(), AllocError>
+        requires { target.0 < length self.old.net.points }
+        ensures at { StaysAt self.old self.new }
+        ensures left { self.new.left ≤ self.old.left + most_queued }
+    {
+        let queue = self.relaxing.seeds(self.alloc, target)?;
+        self.stack.push(Frame { target, queue })?;
+        Ok(())
+    }
+
+    /// Settles the next key of a row, or begins the row that it needs. True unless it came to a row
+    /// in progress. Less is left than before the row was taken from the stack.
+    fn turn(&mut self, frame: Frame) -> Result<bool, AllocError>
+        ensures at { StaysAt self.old self.new }
+        ensures less { OnOk result (self.new.left < self.old.left + left_of_frame frame) }
+    {
+        let Frame { target, mut queue } = frame;
+        match self.relaxing.next(target, &mut queue) {
+            None => {
+                self.finish(target);
                 Ok(true)
             }
-            Mark::Done => {
-                settle_edge(cells, net, seat, &mut queue, &edge)?;
-                stack.push(Frame { target, queue })?;
-                Ok(true)
-            }
-        },
-    }
-}
-
-fn finish(marks: &mut [Mark], target: PointId)
-    ensures { length marks.new ≡ length marks.old }
-{
-    if let Some(mark) = marks.get_mut(target.0 as usize) {
-        *mark = Mark::Done;
-    }
-}
-
-/// The negative keys of a row as the cells have it.
-fn seeds(
-    alloc: Global,
-    cells: &Cells,
-    net: &Network,
-    seat: &mut CellSeat,
-    target: PointId,
-) -> Result<KeyQueue, AllocError>
-    requires at { IsAt net.now cells.now seat.old }
-    requires target { target.0 < length net.now.points }
-    ensures { OnOk result (IsAt net.now cells.now seat.new) }
-{
-    let mut queue = BinaryHeap::new(alloc);
-    for from in 0..net.points().len() as u32 {
-        if let Some(edge) = ordinary(cells, net, seat, PointId(from), target) {
-            enqueue(&mut queue, &edge)?;
-        }
-    }
-    for link in 0..net.links().len() as u32 {
-        if net.links()[link as usize].from == target {
-            begin_labelled(cells, net, seat, &mut queue, target, LinkId(link))?;
-        }
-    }
-    Ok(queue)
-}
-
-fn begin_labelled(
-    cells: &Cells,
-    net: &Network,
-    seat: &mut CellSeat,
-    queue: &mut KeyQueue,
-    target: PointId,
-    link: LinkId,
-) -> Result<(), AllocError>
-    requires at { IsAt net.now cells.now seat.old }
-    requires link { slice_get (shape_of net.now).activations link.0 ≡ Some target }
-    ensures { OnOk result (IsAt net.now cells.now seat.new) }
-{
-    for from in 0..net.points().len() as u32 {
-        if let Some(edge) = labelled(cells, net, seat, PointId(from), target, link) {
-            enqueue(queue, &edge)?;
-            relax(cells, net, seat, queue, without_label(net, &edge))?;
-        }
-    }
-    Ok(())
-}
-
-/// The next key of a row that was queued at the weight that the cells have for it.
-fn next(
-    cells: &Cells,
-    net: &Network,
-    seat: &mut CellSeat,
-    target: PointId,
-    queue: &mut KeyQueue,
-) -> Option<Edge>
-    requires at { IsAt net.now cells.now seat.old }
-    ensures at { IsAt net.now cells.now seat.new }
-    ensures edge { IfSome result (IsDerivable net.now) }
-{
-    for _one in 0..queue.len() {
-        match queue.pop() {
-            None => return None,
-            Some(Reverse((weight, from, number))) => {
-                let found = held(cells, net, seat, PointId(from), target, number);
-                if let Some(edge) = found {
-                    if edge.weight == weight {
-                        return Some(edge);
-                    }
+            Some(edge) => match self.meet(edge.from) {
+                Mark::Open => Ok(false),
+                Mark::New => {
+                    enqueue(&mut queue, &edge)?;
+                    self.stack.push(Frame { target, queue })?;
+                    self.begin(edge.from)?;
+                    Ok(true)
                 }
-            }
+                Mark::Done => {
+                    self.relaxing.settle(&mut queue, &edge)?;
+                    self.stack.push(Frame { target, queue })?;
+                    Ok(true)
+                }
+            },
         }
     }
-    None
+
+    /// The row of a point is made.
+    fn finish(&mut self, target: PointId)
+        ensures { SweepGoesOn self.old self.new }
+    {
+        if let Some(mark) = self.marks.get_mut(target.0 as usize) {
+            *mark = Mark::Done;
+        }
+    }
 }

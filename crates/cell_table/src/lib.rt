@@ -2,7 +2,6 @@
 //! for each key, by single atomic steps. The rule of the cells is this project's own choice.
 #![tactic(auto)]
 
-mod cell_edges;
 mod cells;
 mod closure;
 mod depth_first_sweep;

@@ -1,5 +1,0 @@
-use Rattle.cell_table.specs.SweepSeats.{IsAt}
-use Rattle.cell_table.proofs.depth_first_sweep.begin_labelled.Given as goal
-
-abbrev pub invariant-loop-from : goal.invariant-loop-from
-invariant-loop-from l = IsAt l.net l.cells l.seat
