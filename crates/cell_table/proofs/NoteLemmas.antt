@@ -12,12 +12,11 @@ use Rattle.net_model.specs.declared.part.Edge.{Edge}
 use Rattle.closure_model.specs.Derivable.{IsDerivable}
 use Rattle.closure_model.specs.Keys.{Key, key_of, edge_of, shape_of}
 use Rattle.closure_model.specs.ReferenceRow.{IsBelow}
-use Rattle.closure_model.specs.Tables.{Graph, HasAtMost, HasEdge, weight_of, has_at_most, lowered, no_edges, table_of, with_edge}
+use Rattle.closure_model.specs.Tables.{Graph, HasAtMost, HasEdge, has_at_most, lowered, no_edges, table_of, with_edge}
 use Rattle.closure_model.proofs.TableLemmas.{at_most_gives, lowered-at_most, lowered-has, table_of-given}
 use Rattle.closure_model.proofs.WeightMeasure.{measure, measure_decreases}
 use Rattle.closure_model.proofs.Weights.{lt_is}
 use Rattle.network_closure.proofs.PartialClosureLemmas.{derivable_within}
-use Rattle.cell_table.specs.Places.{held}
 use Rattle.cell_table.specs.Shared.{CellSeatSeen, Lowers}
 use Rattle.cell_table.specs.Views.{edges_held}
 use Rattle.cell_table.proofs.EndLemmas.{derivable_key}

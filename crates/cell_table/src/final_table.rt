@@ -66,8 +66,6 @@ fn take_at(
     requires place { place < (points + length table.old.shape.activations) * points }
     ensures { OnOk result (TakesAt table.old (place + 1) word table.new) }
 {
-    // The proof reads here that there is a key.
-    let _key = edge_at(table, ends, points, place, &0);
     match weight_of_word(word) {
         None => Ok(()),
         Some(weight) => {

@@ -1,10 +1,12 @@
 use Rattle.std.proofs.Common.{rules, ◌≡◌, ◌+◌}
 use Rattle.closure_model.specs.Keys.{key_of}
-use Rattle.cell_table.proofs.TakeLemmas.{taken_one, held_edge, small_of}
+use Rattle.cell_table.proofs.TakeLemmas.{taken_one, held_edge, key_there, small_of}
 use Rattle.cell_table.proofs.final_table.take_at.Goals as goal
 
 pub weight_of_word-requires : goal.weight_of_word-requires
-weight_of_word-requires c = small_of c.args.word (c.requires.can (key_of c.edge_at-key.result) c.edge_at-key.ensures.key c.edge_at-key.ensures.place)
+weight_of_word-requires c =
+    let (key, is, at) = key_there c.args.table.now c.args.ends.now c.args.points c.args.place c.requires.ends c.requires.begins c.requires.points c.requires.place in
+    small_of c.args.word (c.requires.can key is at)
 
 pub lower_to-requires-clause-weight : goal.lower_to-requires-clause-weight
 lower_to-requires-clause-weight c =
