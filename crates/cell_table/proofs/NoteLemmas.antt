@@ -1,9 +1,8 @@
 -- The least weights that a seat has noted fall with each note, and further if the note improves a key.
-use Rattle.std.proofs.Common.{◌≡◌, ◌<◌, ◌≤◌, ℤ, ◌<ℤ◌, ◌≤ℤ◌, Bool, true, false, List, [], ◌∷◌, ◌++◌, Option, Some, None, refl, ap, sym, subst, ◌∙◌, arith}
+use Rattle.std.proofs.Common.{◌≡◌, ◌<◌, ◌≤◌, ℤ, ◌<ℤ◌, Bool, true, false, List, [], ◌∷◌, ◌++◌, Option, Some, None, refl, ap, sym, subst, ◌∙◌, arith}
 use Rattle.std.specs.Prelude.{unsigned_abs, int_le, int_lt, if◌then◌else◌}
 use Rattle.std.specs.List.{All}
 use Rattle.std.specs.Option.{option_map_or}
-use Rattle.std.proofs.lemmas.Int.{ints}
 use Rattle.std.proofs.lemmas.List.{append-nil}
 use Rattle.std.proofs.lemmas.List.Elements.{All-append, All-cons, All-nil, All-contains}
 use Rattle.std.proofs.lemmas.List.Sums.{fold-append}
@@ -15,22 +14,19 @@ use Rattle.closure_model.specs.ReferenceRow.{IsBelow}
 use Rattle.closure_model.specs.Tables.{Graph, HasAtMost, HasEdge, has_at_most, lowered, no_edges, table_of, with_edge}
 use Rattle.closure_model.proofs.TableLemmas.{at_most_gives, lowered-at_most, lowered-has, table_of-given}
 use Rattle.closure_model.proofs.WeightMeasure.{measure, measure_decreases}
-use Rattle.closure_model.proofs.Weights.{lt_is}
+use Rattle.closure_model.proofs.Weights.{lt_is, lt_then, le_is_not}
 use Rattle.network_closure.proofs.PartialClosureLemmas.{derivable_within}
 use Rattle.cell_table.specs.Shared.{CellSeatSeen, Lowers}
 use Rattle.cell_table.specs.Views.{edges_held}
 use Rattle.cell_table.proofs.EndLemmas.{derivable_key}
 
 -- the edges of a table that is made of derivable edges are no greater than the network allows
-within : (net : Plan) → IsPlan net → (notes : List Edge) → All (IsDerivable net) notes → (edge : Edge) → HasEdge (table_of (shape_of net) notes) edge → unsigned_abs edge.weight ≤ greatest net
+within : (net : Plan) → IsPlan net → (notes : List Edge) → All (IsDerivable net) notes → (edge : Edge) → HasEdge (table_of (shape_of net) notes) edge
+    → unsigned_abs edge.weight ≤ greatest net
 within net plan notes noted edge has = derivable_within net plan edge (All-contains (IsDerivable net) notes edge noted (table_of-given (shape_of net) notes edge has))
 
-missed_below : (table : Graph) (edge : Edge) → has_at_most table edge ≡ false → IsBelow table edge
-missed_below table edge missed weight has = by (int_le weight edge.weight) refl (sym (ap (λ (o : Option ℤ). option_map_or (λ w. int_le w edge.weight) o false) has) ∙ missed)
-  where
-    by : (b : Bool) → int_le weight edge.weight ≡ b → int_le weight edge.weight ≡ false → edge.weight <ℤ weight
-    by true is no_more = absurd cc
-    by false is no_more = grind (arith, ints)
+pub missed_below : (table : Graph) (edge : Edge) → has_at_most table edge ≡ false → IsBelow table edge
+missed_below table edge missed weight has = le_is_not weight edge.weight (sym (ap (λ (o : Option ℤ). option_map_or (λ w. int_le w edge.weight) o false) has) ∙ missed)
 
 -- ---- one more note
 module _ (net : Plan) (plan : IsPlan net) (notes : List Edge) (noted : All (IsDerivable net) notes) (edge : Edge) (derivable : IsDerivable net edge) where
@@ -72,14 +68,11 @@ module _ (net : Plan) (plan : IsPlan net) (notes : List Edge) (noted : All (IsDe
   held_leaves_no_more (Some weight) derivable = note_leaves_no_more net plan notes noted (edge_of key weight) (derivable weight refl)
 
 -- an edge that improves its key is below all that the seat has noted of the key
-pub improves_below : (net : Plan) (before after : CellSeatSeen) (edge : Edge) (improved : Bool) → Lowers before after edge improved → improved ≡ true
+pub improves_below : (net : Plan) (before later : CellSeatSeen) (edge : Edge) (improved : Bool) → Lowers before later edge improved → improved ≡ true
     → IsBelow (table_of (shape_of net) before.view.notes) edge
-improves_below net before after edge improved lowers is weight has =
+improves_below net before later edge improved lowers is weight has =
     let noted = All-contains (HasAtMost lowers.found.past.table) before.view.notes (edge_of (key_of edge) weight) lowers.found.notes (table_of-given (shape_of net) before.view.notes (edge_of (key_of edge) weight) has) in
     let (found, there, less) = at_most_gives lowers.found.past.table (edge_of (key_of edge) weight) noted in
     let lighter : edge.weight <ℤ found =
     lt_is edge.weight found (sym (ap (λ (o : Option ℤ). option_map_or (λ w. int_lt edge.weight w) o true) (lowers.found.is ∙ there)) ∙ (sym lowers.given ∙ is)) in
-    lt edge.weight found weight lighter less
-  where
-    lt : (a b c : ℤ) → a <ℤ b → b ≤ℤ c → a <ℤ c
-    lt a b c one two = grind (arith, ints)
+    lt_then edge.weight found weight lighter less

@@ -1,10 +1,20 @@
 -- What is made of the words of cells at the end. This project's own choice.
-use Rattle.std.specs.Prelude.{◌≡◌, ◌⊎◌, ℕ, ℤ, List, length, Some, slice_index}
+use Rattle.std.specs.Prelude.{◌≡◌, ◌<◌, ◌≤◌, ◌⊎◌, ℕ, ℤ, List, length, Some, slice_index}
+use Rattle.std.specs.List.{All}
+use Rattle.net_model.specs.declared.ids.PointId.{PointId}
 use Rattle.net_model.specs.declared.part.Edge.{Edge}
-use Rattle.closure_model.specs.Keys.{Key, IsKey, key_of, edge_of}
+use Rattle.closure_model.specs.Keys.{Key, IsKey, Shape, key_of, edge_of}
 use Rattle.closure_model.specs.Tables.{Graph, HasEdge, HasAtMost, IsAtMost}
-use Rattle.net_model.specs.Limits.{IsWeight}
+use Rattle.net_model.specs.Limits.{IsWeight, most_points, most_links}
 use Rattle.cell_table.specs.Places.{held, word_place_of, word_count}
+
+-- how many points a table has, and the points in which the edges of each label end
+pub record AreOfShape (shape : Shape) (points : ℕ) (ends : List PointId) : Type 0 where
+  pub points_are : points ≡ shape.points
+  pub ends_are : ends ≡ shape.activations
+  pub begins : All (λ (end : PointId). end.0 < points) ends
+  pub few : points ≤ most_points
+  pub few_links : length shape.activations ≤ most_links
 
 -- the word of a key holds a weight
 abbrev pub HoldsAt : Graph → List ℕ → Key → ℤ → Type 0

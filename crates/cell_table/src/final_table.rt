@@ -1,11 +1,10 @@
 //! The table that the words of cells give at the end.
 
 ghost use Rattle.std.specs.Prelude.{◌≡◌, ◌<◌, ◌+◌, ◌*◌, length, IfOk, OnOk};
-ghost use Rattle.std.specs.List.{All};
 ghost use Rattle.std.specs.Mem.Slots.{slots_items, slots_len, IsFull};
 ghost use Rattle.closure_model.specs.Keys.{IsKey, key_of, shape_of};
 ghost use Rattle.cell_table.specs.Places.{word_place_of};
-ghost use Rattle.cell_table.specs.FinalTables.{CanTake, CanTakeAt, TakesAt, TakesCellWords};
+ghost use Rattle.cell_table.specs.FinalTables.{AreOfShape, CanTake, CanTakeAt, TakesAt, TakesCellWords};
 
 use crate::word::weight_of_word;
 use atomic_table::Closed;
@@ -32,14 +31,10 @@ pub(crate) fn taken_in(
     points: usize,
     count: usize,
 ) -> Result<Table, AllocError>
-    requires ends { ends.now ≡ table.shape.activations }
-    requires begins { All (λ end. end.0 < points) ends.now }
+    requires shape { AreOfShape table.shape points ends.now }
     requires can { CanTake table (slots_items words.now.words) }
     requires full { IsFull words.now.words }
     requires count { count ≡ slots_len words.now.words }
-    requires points { points ≡ table.shape.points }
-    requires few { points < 4000 }
-    requires few_links { length table.shape.activations < 4000 }
     ensures { IfOk result (TakesCellWords table (slots_items words.now.words)) }
 {
     for place in 0..count - 1 {
@@ -57,12 +52,8 @@ fn take_at(
     place: usize,
     word: u64,
 ) -> Result<(), AllocError>
-    requires ends { ends.now ≡ table.old.shape.activations }
-    requires begins { All (λ end. end.0 < points) ends.now }
+    requires shape { AreOfShape table.old.shape points ends.now }
     requires can { CanTakeAt table.old (place + 1) word }
-    requires points { points ≡ table.old.shape.points }
-    requires few { points < 4000 }
-    requires few_links { length table.old.shape.activations < 4000 }
     requires place { place < (points + length table.old.shape.activations) * points }
     ensures { OnOk result (TakesAt table.old (place + 1) word table.new) }
 {
@@ -78,11 +69,7 @@ fn take_at(
 
 /// The edge of the key of a place and a weight.
 fn edge_at(table: &Table, ends: &[PointId], points: usize, place: usize, weight: &Weight) -> Edge
-    requires ends { ends.now ≡ table.now.shape.activations }
-    requires begins { All (λ end. end.0 < points) ends.now }
-    requires points { points ≡ table.now.shape.points }
-    requires few { points < 4000 }
-    requires few_links { length table.now.shape.activations < 4000 }
+    requires shape { AreOfShape table.now.shape points ends.now }
     requires place { place < (points + length table.now.shape.activations) * points }
     ensures key { IsKey table.now.shape (key_of result) }
     ensures place { word_place_of table.now.shape (key_of result) ≡ place + 1 }

@@ -4,4 +4,4 @@ use Rattle.cell_table.proofs.final_table.edge_at.Goals as goal
 
 pub returns-clause-key : goal.returns-clause-key
 returns-clause-key c =
-    labelled_there c.args.table.now c.args.ends.now c.args.points c.args.place c.requires.ends c.requires.begins c.requires.points c.if-row-points.false c.requires.place _ refl
+    labelled_there c.args.table.now c.args.ends.now c.args.points c.args.place c.requires.shape c.if-row-points.false c.requires.place _ refl

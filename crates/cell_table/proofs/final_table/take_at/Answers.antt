@@ -5,7 +5,7 @@ use Rattle.cell_table.proofs.final_table.take_at.Goals as goal
 
 pub weight_of_word-requires : goal.weight_of_word-requires
 weight_of_word-requires c =
-    let (key, is, at) = key_there c.args.table.now c.args.ends.now c.args.points c.args.place c.requires.ends c.requires.begins c.requires.points c.requires.place in
+    let (key, is, at) = key_there c.args.table.now c.args.ends.now c.args.points c.args.place c.requires.shape c.requires.place in
     small_of c.args.word (c.requires.can key is at)
 
 pub lower_to-requires-clause-weight : goal.lower_to-requires-clause-weight

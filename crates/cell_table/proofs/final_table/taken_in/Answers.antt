@@ -1,10 +1,15 @@
-use Rattle.std.proofs.Common.{rules, ◌≡◌, ◌+◌, length, ◌∙◌}
+use Rattle.std.proofs.Common.{rules, ◌≡◌, ◌+◌, length, sym, subst, ◌∙◌}
 use Rattle.std.specs.Mem.Slots.{slots_items, slots_len}
+use Rattle.closure_model.specs.Keys.{Shape}
+use Rattle.cell_table.specs.FinalTables.{AreOfShape}
 use Rattle.cell_table.proofs.TakeLemmas.{can_at, taken_more, all_taken, none_taken, word_is}
 use Rattle.cell_table.proofs.final_table.taken_in.Goals as goal
 
 pub loop-place-init : goal.loop-place-init
 loop-place-init c = none_taken c.args.table (slots_items c.args.words.now.words)
+
+pub take_at-requires-clause-shape : goal.take_at-requires-clause-shape
+take_at-requires-clause-shape c = subst (λ (s : Shape). AreOfShape s c.args.points c.args.ends.now) (sym c.loop-place.invariant.shape_is) c.requires.shape
 
 pub take_at-requires-clause-can : goal.take_at-requires-clause-can
 take_at-requires-clause-can c =

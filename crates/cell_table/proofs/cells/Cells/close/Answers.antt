@@ -1,8 +1,7 @@
-use Rattle.std.proofs.Common.{rules, ap, subst, ◌∙◌}
+use Rattle.std.proofs.Common.{ap, subst, ◌∙◌}
 use Rattle.std.specs.Mem.Slots.{slots_items}
-use Rattle.closure_model.specs.Keys.{Shape}
 use Rattle.cell_table.proofs.CloseLemmas.{left_can, left_is, ok_then}
-use Rattle.cell_table.proofs.TakeLemmas.{ends_begin}
+use Rattle.cell_table.proofs.TakeLemmas.{shape_ends}
 use Rattle.cell_table.specs.TableWords.{IsLeftOf}
 use Rattle.cell_table.specs.FinalTables.{TakesCellWords}
 use Rattle.cell_table.specs.Shared.{CellsSeen}
@@ -13,13 +12,10 @@ pub taken_in-taken-requires-clause-can : goal.taken_in-taken-requires-clause-can
 taken_in-taken-requires-clause-can c =
     let last = c.close-closed.ensures.last in left_can c.self.inside.words.key c.self.inside.first (slots_items c.close-closed.result.words) last.seats last.rule c.self.invariant.fits
 
-pub taken_in-taken-requires-clause-ends : goal.taken_in-taken-requires-clause-ends
-taken_in-taken-requires-clause-ends c = search rules
-
-pub taken_in-taken-requires-clause-begins : goal.taken_in-taken-requires-clause-begins
-taken_in-taken-requires-clause-begins c =
-    ends_begin c.self.inside.words.key.net.value c.self.invariant.plan c.as_slice.result.now (c.as_slice.ensures.value ∙ c.self.invariant.ends_are
-    ∙ ap (λ (s : Shape). s.activations) c.self.invariant.fits) c.self.inside.points c.self.invariant.points_are
+pub taken_in-taken-requires-clause-shape : goal.taken_in-taken-requires-clause-shape
+taken_in-taken-requires-clause-shape c =
+    shape_ends c.self.inside.words.key.net.value c.self.invariant.plan c.self.inside.first c.self.invariant.fits c.self.inside.points c.self.invariant.points_are c.as_slice.result.now
+    (c.as_slice.ensures.value ∙ c.self.invariant.ends_are)
 
 pub returns : goal.returns
 returns c =
