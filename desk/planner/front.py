@@ -11,6 +11,10 @@ from planner.program import Program
 from planner.reader import nearest
 
 
+# The commands whose calls are of one command of the program.
+CALL_ONE = ("check", "lint")
+
+
 class Parser(argparse.ArgumentParser):
     """A parser whose complaints are one line, and which knows the nearest option."""
 
@@ -81,7 +85,7 @@ def run(words):
         raise faults.Fault(f"there is no command '{name}'{meant}\nplanner: 'planner --help' lists the commands")
     # (options may stand between the words)
     args = parser_of(name).parse_intermixed_args(rest)
-    args.program = Program.found(args.program, args.show_calls)
+    args.program = Program.found(args.program, args.show_calls, calls_one=name in CALL_ONE)
     return module_of(name).run(args)
 
 

@@ -102,16 +102,30 @@ class Program:
 
     path: str
     shows_calls: bool = False
+    # Whether all calls are of one command of the program.
+    calls_one: bool = False
 
     @classmethod
-    def found(cls, path=None, shows_calls=False):
+    def found(cls, path=None, shows_calls=False, calls_one=False):
         """The program that is asked: the one named, else the one beside this package, else that of the search path."""
         if path is None:
             beside = Path(__file__).resolve().parents[2] / "stnu"
             path = relative(beside) if beside.is_file() else shutil.which("stnu")
         if path is None:
             raise Fault("there is no program stnu beside planner nor on the search path; name it by --program", Status.NO_PROGRAM)
-        return cls(path, shows_calls)
+        return cls(path, shows_calls, calls_one)
+
+    def compile_first(self, words):
+        """Has the launcher's program compiled, if none is for a call with these words; that tells how far it is, which calls do not."""
+        root = Path(self.path).parent
+        one = f"one-{words[0]}" + "-words" * (len(words) > 1)
+        if not (root / "tools/start").is_dir() or any((root / "out/start" / it).is_file() for it in ("proved", "checked", one)):
+            return
+        wanted = os.environ.get("STNU_PROGRAM")
+        more = [wanted] if wanted else ["--command", words[0], *["--alone"] * (len(words) == 1)] if self.calls_one else []
+        nothing = {"stdin": subprocess.DEVNULL, "stdout": subprocess.DEVNULL}
+        if subprocess.run([sys.executable, root / "tools/start", "which", *more], check=False, **nothing).returncode:
+            self.complain(Status.NO_PROGRAM)
 
     def call(self, words, *sources, is_shown=True):
         """The answer to a call with these words, whose input is these texts one after another.
@@ -120,6 +134,7 @@ class Program:
         """
         command = [self.path, *words, *(word for source in sources for word in source.words)]
         text = joined(sources)
+        self.compile_first(command[1:])
         try:
             done = subprocess.run(command, input=text, stdout=subprocess.PIPE, check=False, env=quiet(), **ENCODING)
         except OSError as why:
@@ -217,6 +232,7 @@ class Talk:
     def __post_init__(self):
         pipes = {"stdin": subprocess.PIPE, "stdout": subprocess.PIPE}
         words = [self.program.path, self.command, *self.source.words]
+        self.program.compile_first(words[1:])
         try:
             self.child = subprocess.Popen(words, env=quiet(), **pipes, **ENCODING)
         except OSError as why:

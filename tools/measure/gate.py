@@ -64,8 +64,13 @@ class Watch:
         found = {number: it for number, it in found.items() if it}
         for number, it in found.items():
             if number != str(os.getpid()) and self.is_below(number, found):
-                self.took[number, it.begun] = (kind_of(it.words), it.seconds)
+                self.took[number, it.begun] = (self.kind(number, it), it.seconds)
         return self.root in found
+
+    def kind(self, number, it):
+        """The kind and the crate of a process. One that is ending has no words left, and keeps what it was."""
+        known = self.took.get((number, it.begun))
+        return known[0] if known and not any(it.words) else kind_of(it.words)
 
     def is_below(self, number, found):
         while number in found and number != self.root:

@@ -118,12 +118,22 @@ class Crates:
         """The libraries of the kit that this one names."""
         return ["std", *(it for it in self.libraries[name] if it not in self.libraries)]
 
+    def keep_named(self, name, names):
+        """Has a crate stand on those alone that are among these names."""
+        self.libraries[name] = [it for it in self.libraries[name] if it in names]
+
     def below(self, name):
         """The crates on which this one stands, whether it names them or not, each after those on
         which it stands itself."""
         found = {}
-        for need in self.own(name):
-            found |= dict.fromkeys([*self.below(need), need])
+
+        def find(crate):
+            for need in self.own(crate):
+                if need not in found:
+                    find(need)
+                    found[need] = None
+
+        find(name)
         return [*found]
 
     def all(self):
@@ -282,16 +292,18 @@ class Guarded:
         return subprocess.Popen([*map(str, words)], preexec_fn=lambda: os.setpgid(0, group), **how)
 
 
-def locked(path, why):
+def locked(path, why, meanwhile=contextlib.nullcontext()):
     """Opens a file or folder for this process alone, and says why it waits where another one has
-    it. Gives what holds it, and whether it waited."""
+    it. Gives what holds it, and whether it waited; `meanwhile` is entered while it does."""
     held = os.open(path, os.O_RDONLY if os.path.isdir(path) else os.O_RDWR | os.O_CREAT, 0o644)
     try:
         fcntl.flock(held, fcntl.LOCK_EX | fcntl.LOCK_NB)
         return held, False
     except BlockingIOError:
-        say(why)
-        fcntl.flock(held, fcntl.LOCK_EX)
+        if why:
+            say(why)
+        with meanwhile:
+            fcntl.flock(held, fcntl.LOCK_EX)
         return held, True
     except OSError:
         # (a file system without locks)

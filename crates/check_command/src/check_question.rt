@@ -1,6 +1,6 @@
 //! The command `check`: a plan, and then whether the network that it declares is controllable.
 
-ghost use Rattle.std.specs.Prelude.{◌≡◌, [], true, false, IfOk};
+ghost use Rattle.std.specs.Prelude.{true, false, IfOk};
 ghost use Rattle.check_command.specs.CheckPromise.{CheckPromise};
 ghost use Rattle.check_command.specs.CheckAnswers.{check_answers, check_request, check_start};
 ghost use Rattle.check_command.specs.CheckAnswers.{check_syntax, checked_plan, engine_test};
@@ -147,7 +147,7 @@ impl OneRun for Check {
     fn defines_one() {}
 }
 
-/// Puts the verdict of a network into the buffer, which is empty.
+/// Puts the verdict of a network in place of what stood in the buffer.
 fn put_verdict<R: Threads + Sync>(
     rt: &R,
     alloc: Global,
@@ -155,7 +155,6 @@ fn put_verdict<R: Threads + Sync>(
     net: EnginePlan,
     check: &Check,
 ) -> Result<End, AllocError>
-    requires { answer.old.text ≡ [] }
     ensures { IfOk result (check_answers check.now net answer.new.text) }
 {
     if check.flags.proof {
@@ -165,8 +164,8 @@ fn put_verdict<R: Threads + Sync>(
     }
 }
 
-/// Puts the verdict of a network, and no proof that it is controllable, into the buffer, which is
-/// empty.
+/// Puts the verdict of a network, and no proof that it is controllable, in place of what stood in
+/// the buffer.
 fn put_without_proof<R: Threads + Sync>(
     rt: &R,
     alloc: Global,
@@ -174,17 +173,16 @@ fn put_without_proof<R: Threads + Sync>(
     net: EnginePlan,
     workers: &WorkerCount,
 ) -> Result<End, AllocError>
-    requires { answer.old.text ≡ [] }
     ensures { IfOk result (puts_verdict false net answer.new.text) }
 {
-    match net.refutation(rt, alloc, workers)? {
+    match net.refutation(&workers.workers(rt, alloc))? {
         None => put_controllable(answer),
         Some(certificate) => put_refuted(alloc, answer, &certificate),
     }
 }
 
-/// Puts the verdict of a network into the buffer, which is empty, and the proof if it is
-/// controllable.
+/// Puts the verdict of a network, and the proof if it is controllable, in place of what stood in
+/// the buffer.
 fn put_with_proof<R: Threads + Sync>(
     rt: &R,
     alloc: Global,
@@ -192,10 +190,9 @@ fn put_with_proof<R: Threads + Sync>(
     net: EnginePlan,
     workers: &WorkerCount,
 ) -> Result<End, AllocError>
-    requires { answer.old.text ≡ [] }
     ensures { IfOk result (puts_verdict true net answer.new.text) }
 {
-    match net.decide_by_closure(rt, alloc, workers)? {
+    match net.decide_by_closure(&workers.workers(rt, alloc))? {
         Verdict::Controllable {
             stated,
             shown,
@@ -205,8 +202,8 @@ fn put_with_proof<R: Threads + Sync>(
     }
 }
 
-/// Puts that a network is controllable into the buffer, which is empty, and the certificate that
-/// proves it by its shown form.
+/// Puts that a network is controllable, and the certificate that proves it by its shown form, in
+/// place of what stood in the buffer.
 fn put_proof(
     alloc: Global,
     answer: &mut Answer,
@@ -214,7 +211,6 @@ fn put_proof(
     shown: &Network,
     closed: &Closed,
 ) -> Result<End, AllocError>
-    requires empty { answer.old.text ≡ [] }
     requires verdict { IsControllableBy IsOrderedClosure net.now shown.now closed.now }
     ensures { IfOk result (PutsYes true net.now answer.new.text) }
 {

@@ -9,16 +9,16 @@ ghost use Rattle.verdicts.specs.Verdict.{IsRefutedBy, IsVerdictBy};
 
 use cell_table::fits;
 use cert_format::Certificate;
-use command_contracts::WorkerCount;
 use command_engine::Test;
 use common_answers::Fault;
 use input_texts::{Notation, PlanNetwork};
 use net_model::Network;
 use network_closure::Closed;
+use parallel_rounds::{NoGate, Workers};
 use std::alloc::{AllocError, Global};
 use std::marker::Model;
 use std::thread::Threads;
-use verdicts::Verdict;
+use verdicts::{Verdict, decide, decide_by_cells, decide_by_closure};
 
 /// The engine by which a network is decided. Both come to the same verdict, and a refutation is
 /// made of rounds by either. No clause says which of them works.
@@ -130,16 +130,14 @@ impl EnginePlan {
     /// workers. `AllocError` comes only for want of memory.
     pub fn refutation<R: Threads + Sync>(
         self,
-        rt: &R,
-        alloc: Global,
-        workers: &WorkerCount,
+        workers: &Workers<'_, R, NoGate>,
     ) -> Result<Option<Certificate>, AllocError>
         ensures { IfOk result (IsRefutedBy self) }
     {
         let EnginePlan { net, engine } = self;
         match engine {
-            Engine::Rounds => refutation_by_rounds(rt, alloc, net, workers),
-            Engine::Cells => refutation_by_cells(rt, alloc, net, workers),
+            Engine::Rounds => refutation_by_rounds(workers, net),
+            Engine::Cells => refutation_by_cells(workers, net),
         }
     }
 
@@ -147,44 +145,38 @@ impl EnginePlan {
     /// engine and these workers make it. `AllocError` comes only for want of memory.
     pub fn decide_by_closure<R: Threads + Sync>(
         self,
-        rt: &R,
-        alloc: Global,
-        workers: &WorkerCount,
+        workers: &Workers<'_, R, NoGate>,
     ) -> Result<Verdict<Closed>, AllocError>
         ensures { IfOk result (IsVerdictBy IsOrderedClosure self) }
     {
         let EnginePlan { net, engine } = self;
         match engine {
-            Engine::Rounds => workers.decide_by_closure(rt, alloc, net),
-            Engine::Cells => workers.decide_by_cells(rt, alloc, net),
+            Engine::Rounds => decide_by_closure(workers, net),
+            Engine::Cells => decide_by_cells(workers, net),
         }
     }
 }
 
 /// The certificate that refutes a network, unless it has a forward closed table with an order.
 fn refutation_by_rounds<R: Threads + Sync>(
-    rt: &R,
-    alloc: Global,
+    workers: &Workers<'_, R, NoGate>,
     net: Network,
-    workers: &WorkerCount,
 ) -> Result<Option<Certificate>, AllocError>
     ensures { IfOk result (IsRefutedBy net) }
 {
-    let verdict = workers.decide(rt, alloc, net)?;
+    let verdict = decide(workers, net)?;
     Ok(verdict.refutation())
 }
 
 /// The certificate that refutes a network whose keys shared cells hold, unless its closure, made in
 /// these, has an order.
 fn refutation_by_cells<R: Threads + Sync>(
-    rt: &R,
-    alloc: Global,
+    workers: &Workers<'_, R, NoGate>,
     net: Network,
-    workers: &WorkerCount,
 ) -> Result<Option<Certificate>, AllocError>
     requires { key_count net ≤ most_keys }
     ensures { IfOk result (IsRefutedBy net) }
 {
-    let verdict = workers.decide_by_cells(rt, alloc, net)?;
+    let verdict = decide_by_cells(workers, net)?;
     Ok(verdict.refutation())
 }

@@ -1,28 +1,18 @@
-//! The workers that make the rows of a round, and test a closed table.
+//! How many workers make the rows of a round, and test a closed table.
 
-ghost use Rattle.std.specs.Prelude.{◌≡◌, ◌≤◌, option_map, IfOk};
-ghost use Rattle.cell_table.specs.Limits.{key_count, most_keys};
-ghost use Rattle.plan_session.specs.Sessions.{IsOpenedOn};
-ghost use Rattle.verdicts.specs.Decisions.{IsOrderedClosure, IsOrderedForwardTable};
-ghost use Rattle.verdicts.specs.Verdict.{IsVerdictBy};
-ghost use Rattle.command_contracts.specs.WorkerCounts.{most_workers, workers_of};
+ghost use Rattle.std.specs.Prelude.{◌≡◌, option_map};
+ghost use Rattle.command_contracts.specs.WorkerCounts.{workers_of};
 
 use crate::counts::count_within;
-use forward_closure::ForwardClosed;
-use net_model::Network;
-use network_closure::Closed;
-use parallel_rounds::NoGate;
-use plan_session::OpenSession;
-use std::alloc::{AllocError, Global};
+use parallel_rounds::{NoGate, Workers};
+use std::alloc::Global;
 use std::marker::Model;
-use std::thread::Threads;
-use verdicts::{Verdict, decide, decide_by_cells, decide_by_closure};
 
 /// How many workers there may be.
 const MOST_WORKERS: u32 = 64;
 
-/// The workers that make the rows of a round and test a closed table, from 1 to 64. Contracts see
-/// them as their number; what they open and close does not depend on it.
+/// How many workers make the rows of a round and test a closed table, from 1 to 64. Contracts see
+/// their number; what they open and close does not depend on it.
 #[derive(Drop)]
 pub struct WorkerCount {
     count: u32,
@@ -53,62 +43,11 @@ impl WorkerCount {
         }
     }
 
-    /// How many they are.
-    pub fn number(&self) -> u32
-        ensures number { result ≡ self.now }
-        ensures within { (1 ≤ result) × (result ≤ most_workers) }
+    /// The workers themselves, with the threads on which they run and their memory, and no gate
+    /// before a row.
+    pub fn workers<'a, R>(&self, rt: &'a R, alloc: Global) -> Workers<'a, R, NoGate>
+        ensures { result ≡ self.now }
     {
-        self.count
-    }
-
-    /// Opens a session of a network. `AllocError` comes only for want of memory.
-    pub fn open<R: Threads + Sync>(
-        &self,
-        rt: &R,
-        alloc: Global,
-        net: Network,
-    ) -> Result<OpenSession, AllocError>
-        ensures opened { IfOk result (λ session. IsOpenedOn net session.state) }
-        ensures workers { IfOk result (λ session. session.workers ≡ self.now) }
-    {
-        OpenSession::open(rt, alloc, net, self.count, &NoGate)
-    }
-
-    /// Decides whether a network is controllable. `AllocError` comes only for want of memory.
-    pub fn decide<R: Threads + Sync>(
-        &self,
-        rt: &R,
-        alloc: Global,
-        net: Network,
-    ) -> Result<Verdict<ForwardClosed>, AllocError>
-        ensures { IfOk result (IsVerdictBy IsOrderedForwardTable net) }
-    {
-        decide(rt, alloc, net, self.count, &NoGate)
-    }
-
-    /// Decides the same by the closure. `AllocError` comes only for want of memory.
-    pub fn decide_by_closure<R: Threads + Sync>(
-        &self,
-        rt: &R,
-        alloc: Global,
-        net: Network,
-    ) -> Result<Verdict<Closed>, AllocError>
-        ensures { IfOk result (IsVerdictBy IsOrderedClosure net) }
-    {
-        decide_by_closure(rt, alloc, net, self.count, &NoGate)
-    }
-
-    /// Decides the same of a network whose keys shared cells hold, by these. `AllocError` comes
-    /// only for want of memory.
-    pub fn decide_by_cells<R: Threads + Sync>(
-        &self,
-        rt: &R,
-        alloc: Global,
-        net: Network,
-    ) -> Result<Verdict<Closed>, AllocError>
-        requires { key_count net ≤ most_keys }
-        ensures { IfOk result (IsVerdictBy IsOrderedClosure net) }
-    {
-        decide_by_cells(rt, alloc, net, self.count, &NoGate)
+        Workers::of(rt, alloc, self.count, &NoGate)
     }
 }

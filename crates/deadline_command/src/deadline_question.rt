@@ -1,6 +1,6 @@
 //! The command `deadline`: a plan, and the tightest deadline from one point of it to another.
 
-ghost use Rattle.std.specs.Prelude.{◌≡◌, [], ◌++◌, ◌≤◌, codes, option_map, IfOk, IfSome, OnOk};
+ghost use Rattle.std.specs.Prelude.{◌≡◌, ◌++◌, ◌≤◌, codes, option_map, IfOk, IfSome, OnOk};
 ghost use Rattle.std.specs.Fmt.{signed_decimal};
 ghost use Rattle.cert_format.specs.CertificateWords.{HasWeights, printed_certificate};
 ghost use Rattle.command_contracts.specs.Programs.{or_nothing};
@@ -164,14 +164,14 @@ fn name_given(word: Option<&str>) -> Option<Name>
     }
 }
 
-/// Puts the tightest deadline of a network, with its certificates, into the buffer, which is empty.
+/// Puts the tightest deadline of a network, with its certificates, in place of what stood in the
+/// buffer.
 fn put_deadline(
     alloc: Global,
     answer: &mut Answer,
     words: &DeadlineWords,
     deadline: &Deadline,
 ) -> Result<End, AllocError>
-    requires empty { answer.old.text ≡ [] }
     requires printed { CanBePrinted deadline.now }
     ensures { IfOk result (λ end. (answer.new.text ≡ deadline_text words.now deadline.now)
         × (end ≡ deadline_end deadline.now)) }
@@ -192,8 +192,8 @@ fn put_deadline(
     }
 }
 
-/// Puts that a network is controllable, what is said of its deadline, and a certificate into the
-/// buffer, which is empty.
+/// Puts that a network is controllable, what is said of its deadline, and a certificate in place of
+/// what stood in the buffer.
 fn put_one(
     alloc: Global,
     answer: &mut Answer,
@@ -201,19 +201,19 @@ fn put_one(
     said: &str,
     certificate: &Certificate,
 ) -> Result<End, AllocError>
-    requires empty { answer.old.text ≡ [] }
     requires weights { HasWeights certificate.now }
     ensures { IfOk result (λ end. (answer.new.text ≡ kept_text words.now said.now
         (printed_certificate certificate.now)) × (end ≡ End.Done)) }
 {
+    answer.clear();
     answer.push_line(&[Word::Text("controllable")])?;
     push_deadline(answer, words, said)?;
     push_certificate(alloc, answer, certificate)?;
     Ok(End::Done)
 }
 
-/// Puts the least number for which a network can be controlled into the buffer, which is empty,
-/// with a certificate on each side.
+/// Puts the least number for which a network can be controlled, with a certificate on each side, in
+/// place of what stood in the buffer.
 fn put_least(
     alloc: Global,
     answer: &mut Answer,
@@ -222,7 +222,6 @@ fn put_least(
     proof: &Certificate,
     refutation: &Certificate,
 ) -> Result<End, AllocError>
-    requires empty { answer.old.text ≡ [] }
     requires proof { HasWeights proof.now }
     requires refutation { HasWeights refutation.now }
     ensures { IfOk result (λ end. (answer.new.text ≡ kept_text words.now (signed_decimal most)
@@ -234,15 +233,14 @@ fn put_least(
     Ok(End::Done)
 }
 
-/// Puts that a network can be controlled with any number into the buffer, which is empty, with a
-/// certificate of the least one of a plan.
+/// Puts that a network can be controlled with any number, with a certificate of the least one of a
+/// plan, in place of what stood in the buffer.
 fn put_floor(
     alloc: Global,
     answer: &mut Answer,
     words: &DeadlineWords,
     proof: &Certificate,
 ) -> Result<End, AllocError>
-    requires empty { answer.old.text ≡ [] }
     requires weights { HasWeights proof.now }
     ensures { IfOk result (λ end. (answer.new.text ≡ kept_text words.now
         (codes "at-most " ++ signed_decimal lowest) (printed_certificate proof.now))

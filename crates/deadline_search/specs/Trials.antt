@@ -1,11 +1,9 @@
 -- The search for the tightest deadline: what it begins with, and to what it comes.
-use Rattle.std.specs.Prelude.{◌≡◌, ◌⊎◌, ◌<◌, ◌≤◌, ℤ, pos, ◌+ℤ◌, ◌-ℤ◌, ◌≤ℤ◌, length, Option, Some, None}
+use Rattle.std.specs.Prelude.{◌≡◌, ◌⊎◌, ◌<◌, ℤ, pos, ◌+ℤ◌, ◌-ℤ◌, ◌≤ℤ◌, length, Option, Some, None}
 use Rattle.net_model.specs.Limits.{most_bounds}
 use Rattle.net_model.specs.Network.{Plan, IsPoint, bound_named}
-use Rattle.work_board.specs.Limits.{most_seats}
 use Rattle.deadline_search.specs.Deadlines.{IsDeadline, highest, lowest}
 use Rattle.deadline_search.specs.declared.goal.Goal.{Goal}
-use Rattle.deadline_search.specs.declared.goal_search.Search.{Search}
 
 -- the bound of a goal can be declared in a network: its points are points of that, its name is free, and there is capacity
 pub record IsGoalFor (net : Plan) (goal : Goal) : Type 0 where
@@ -13,11 +11,6 @@ pub record IsGoalFor (net : Plan) (goal : Goal) : Type 0 where
   pub to_point : IsPoint net goal.to
   pub free : bound_named net goal.name ≡ None
   pub spare_capacity : length net.bounds < most_bounds
-
--- the bound of its goal can be declared in the network of a search, which has at least one worker and not too many
-pub record IsSearch (search : Search) : Type 0 where
-  pub goal : IsGoalFor search.net search.goal
-  pub workers : (1 ≤ search.workers) × (search.workers ≤ most_seats)
 
 -- a deadline below which the next number is none, or none may be
 pub record IsLastDeadline (net : Plan) (goal : Goal) (most : ℤ) : Type 0 where

@@ -4,14 +4,14 @@
 ghost use Rattle.std.specs.Prelude.{◌≡◌, pos, ◌+ℤ◌, ◌-ℤ◌, ◌≤ℤ◌, ◌<ℤ◌, IfOk};
 ghost use Rattle.std.specs.Int.{int_max, int_min};
 ghost use Rattle.deadline_search.specs.Deadlines.{IsDeadline, lowest, highest};
-ghost use Rattle.deadline_search.specs.Trials.{IsFoundDeadline, IsHalfWay, IsLastDeadline};
-ghost use Rattle.deadline_search.specs.Trials.{IsSearch, widest};
+ghost use Rattle.deadline_search.specs.Trials.{IsFoundDeadline, IsGoalFor, IsHalfWay};
+ghost use Rattle.deadline_search.specs.Trials.{IsLastDeadline, widest};
 
 use crate::goal::{HIGHEST, LOWEST};
 use crate::goal_search::Search;
 use net_model::Weight;
-use parallel_rounds::Gate;
-use std::alloc::{AllocError, Global};
+use parallel_rounds::{Gate, Workers};
+use std::alloc::AllocError;
 use std::thread::Threads;
 
 /// The greatest step: from it on every number is in reach.
@@ -67,40 +67,36 @@ impl Search {
     /// the number before are all that is tried.
     pub fn least<R: Threads + Sync, G: Gate>(
         &self,
-        rt: &R,
-        alloc: Global,
-        gate: &G,
+        workers: &Workers<'_, R, G>,
         guess: Weight,
     ) -> Result<Option<Weight>, AllocError>
-        requires search { IsSearch self.now }
+        requires goal { IsGoalFor self.now.net self.now.goal }
         requires low { lowest ≤ℤ guess }
         requires high { guess ≤ℤ highest }
         ensures { IfOk result (IsFoundDeadline self.now.net self.now.goal) }
     {
-        if self.is_deadline(rt, alloc, gate, guess)? {
-            Ok(Some(self.below(rt, alloc, gate, guess)?))
+        if self.is_deadline(workers, guess)? {
+            Ok(Some(self.below(workers, guess)?))
         } else {
-            self.above(rt, alloc, gate, guess)
+            self.above(workers, guess)
         }
     }
 
     /// The least deadline, at or below one.
     fn below<R: Threads + Sync, G: Gate>(
         &self,
-        rt: &R,
-        alloc: Global,
-        gate: &G,
+        workers: &Workers<'_, R, G>,
         mut kept: Weight,
     ) -> Result<Weight, AllocError>
-        requires search { IsSearch self.now }
+        requires goal { IsGoalFor self.now.net self.now.goal }
         requires kept { IsDeadline self.now.net self.now.goal kept }
         ensures { IfOk result (IsLastDeadline self.now.net self.now.goal) }
     {
         let mut step = 1;
         while kept > LOWEST {
             let next = lower(kept, step);
-            if !self.is_deadline(rt, alloc, gate, next)? {
-                return self.between(rt, alloc, gate, next, kept);
+            if !self.is_deadline(workers, next)? {
+                return self.between(workers, next, kept);
             }
             kept = next;
             step = doubled(step);
@@ -111,12 +107,10 @@ impl Search {
     /// The least deadline, above a number that is none, or `None` if there is none.
     fn above<R: Threads + Sync, G: Gate>(
         &self,
-        rt: &R,
-        alloc: Global,
-        gate: &G,
+        workers: &Workers<'_, R, G>,
         mut failed: Weight,
     ) -> Result<Option<Weight>, AllocError>
-        requires search { IsSearch self.now }
+        requires goal { IsGoalFor self.now.net self.now.goal }
         requires low { lowest ≤ℤ failed }
         requires high { failed ≤ℤ highest }
         requires none { ¬ IsDeadline self.now.net self.now.goal failed }
@@ -125,8 +119,8 @@ impl Search {
         let mut step = 1;
         while failed < HIGHEST {
             let next = higher(failed, step);
-            if self.is_deadline(rt, alloc, gate, next)? {
-                return Ok(Some(self.between(rt, alloc, gate, failed, next)?));
+            if self.is_deadline(workers, next)? {
+                return Ok(Some(self.between(workers, failed, next)?));
             }
             failed = next;
             step = doubled(step);
@@ -137,13 +131,11 @@ impl Search {
     /// The least deadline, above a number that is none and at or below one that is.
     fn between<R: Threads + Sync, G: Gate>(
         &self,
-        rt: &R,
-        alloc: Global,
-        gate: &G,
+        workers: &Workers<'_, R, G>,
         mut failed: Weight,
         mut kept: Weight,
     ) -> Result<Weight, AllocError>
-        requires search { IsSearch self.now }
+        requires goal { IsGoalFor self.now.net self.now.goal }
         requires low { lowest ≤ℤ failed }
         requires apart { failed <ℤ kept }
         requires none { ¬ IsDeadline self.now.net self.now.goal failed }
@@ -152,7 +144,7 @@ impl Search {
     {
         while kept - failed > 1 {
             let next = middle(failed, kept);
-            if self.is_deadline(rt, alloc, gate, next)? {
+            if self.is_deadline(workers, next)? {
                 kept = next;
             } else {
                 failed = next;

@@ -7,15 +7,15 @@ ghost use Rattle.verdicts.specs.Verdict.{IsControllableBy};
 ghost use Rattle.deadline_search.specs.Answers.{IsAnswerOf};
 ghost use Rattle.deadline_search.specs.Deadlines.{IsDeadline, highest};
 ghost use Rattle.deadline_search.specs.Goals.{IsGoalName};
-ghost use Rattle.deadline_search.specs.Trials.{IsLastDeadline, IsSearch};
+ghost use Rattle.deadline_search.specs.Trials.{IsGoalFor, IsLastDeadline};
 
 use crate::answer::Deadline;
 use crate::goal::{HIGHEST, LOWEST};
 use crate::goal_search::Search;
 use forward_closure::ForwardClosed;
 use net_model::{Network, Weight};
-use parallel_rounds::Gate;
-use std::alloc::{AllocError, Global};
+use parallel_rounds::{Gate, Workers};
+use std::alloc::AllocError;
 use std::thread::Threads;
 use strategy_model::laws::law_looser_bounds_keep_control;
 
@@ -24,33 +24,29 @@ impl Search {
     /// table of that.
     pub fn answered<R: Threads + Sync, G: Gate>(
         &self,
-        rt: &R,
-        alloc: Global,
-        gate: &G,
+        workers: &Workers<'_, R, G>,
         shown: Network,
         closed: ForwardClosed,
     ) -> Result<Deadline, AllocError>
-        requires search { IsSearch self.now }
+        requires goal { IsGoalFor self.now.net self.now.goal }
         requires named { IsGoalName self.now.net self.now.goal.name }
         requires closed { IsControllableBy IsOrderedForwardTable self.now.net shown closed }
         ensures { IfOk result (IsAnswerOf self.now.net self.now.goal.from self.now.goal.to) }
     {
-        let guess = self.guess(alloc, shown, closed)?;
-        match self.least(rt, alloc, gate, guess)? {
-            Some(most) => self.last(rt, alloc, gate, most),
-            None => self.never(rt, alloc, gate),
+        let guess = self.guess(workers.alloc(), shown, closed)?;
+        match self.least(workers, guess)? {
+            Some(most) => self.last(workers, most),
+            None => self.never(workers),
         }
     }
 
     /// The answer if there is a least deadline.
     fn last<R: Threads + Sync, G: Gate>(
         &self,
-        rt: &R,
-        alloc: Global,
-        gate: &G,
+        workers: &Workers<'_, R, G>,
         most: Weight,
     ) -> Result<Deadline, AllocError>
-        requires search { IsSearch self.now }
+        requires goal { IsGoalFor self.now.net self.now.goal }
         requires named { IsGoalName self.now.net self.now.goal.name }
         requires controllable { IsControllable self.now.net }
         requires last { IsLastDeadline self.now.net self.now.goal most }
@@ -58,11 +54,11 @@ impl Search {
     {
         law_looser_bounds_keep_control();
         let goal = self.goal.name;
-        let proof = self.proof(rt, alloc, most)?;
+        let proof = self.proof(workers, most)?;
         if most <= LOWEST {
             return Ok(Deadline::Floor { goal, proof });
         }
-        let refutation = self.refutation(rt, alloc, gate, most - 1)?;
+        let refutation = self.refutation(workers, most - 1)?;
         Ok(Deadline::Least {
             goal,
             most,
@@ -74,18 +70,16 @@ impl Search {
     /// The answer if no number is a deadline.
     fn never<R: Threads + Sync, G: Gate>(
         &self,
-        rt: &R,
-        alloc: Global,
-        gate: &G,
+        workers: &Workers<'_, R, G>,
     ) -> Result<Deadline, AllocError>
-        requires search { IsSearch self.now }
+        requires goal { IsGoalFor self.now.net self.now.goal }
         requires named { IsGoalName self.now.net self.now.goal.name }
         requires controllable { IsControllable self.now.net }
         requires none { ¬ IsDeadline self.now.net self.now.goal highest }
         ensures { IfOk result (IsAnswerOf self.now.net self.now.goal.from self.now.goal.to) }
     {
         law_looser_bounds_keep_control();
-        let refutation = self.refutation(rt, alloc, gate, HIGHEST)?;
+        let refutation = self.refutation(workers, HIGHEST)?;
         Ok(Deadline::Never {
             goal: self.goal.name,
             refutation,

@@ -7,7 +7,7 @@ ghost use Rattle.net_model.specs.Network.{IsPoint};
 ghost use Rattle.verdicts.specs.Decisions.{IsOrderedForwardTable};
 ghost use Rattle.verdicts.specs.Verdict.{IsControllableBy};
 ghost use Rattle.deadline_search.specs.Deadlines.{lowest, highest};
-ghost use Rattle.deadline_search.specs.Trials.{IsSearch};
+ghost use Rattle.deadline_search.specs.Trials.{IsGoalFor};
 
 use crate::goal::{HIGHEST, LOWEST};
 use crate::goal_search::Search;
@@ -37,7 +37,7 @@ impl Search {
         shown: Network,
         closed: ForwardClosed,
     ) -> Result<Weight, AllocError>
-        requires search { IsSearch self.now }
+        requires goal { IsGoalFor self.now.net self.now.goal }
         requires closed { IsControllableBy IsOrderedForwardTable self.now.net shown closed }
         ensures low { IfOk result (λ guess. lowest ≤ℤ guess) }
         ensures high { IfOk result (λ guess. guess ≤ℤ highest) }

@@ -10,7 +10,7 @@ use crate::goal::Goal;
 use crate::goal_names::free_name;
 use crate::goal_search::Search;
 use net_model::{MOST_BOUNDS, Network, PointId};
-use parallel_rounds::Gate;
+use parallel_rounds::{Gate, Workers};
 use std::alloc::Global;
 use std::thread::Threads;
 use verdicts::{Verdict, decide};
@@ -37,7 +37,8 @@ pub fn tightest<R: Threads + Sync, G: Gate>(
     requires workers { (1 ≤ workers) × (workers ≤ most_seats) }
     ensures { Answers net from to result }
 {
-    match decide(rt, alloc, net, workers, gate)? {
+    let workers = Workers::of(rt, alloc, workers, gate);
+    match decide(&workers, net)? {
         Verdict::Controllable {
             stated,
             shown,
@@ -50,9 +51,8 @@ pub fn tightest<R: Threads + Sync, G: Gate>(
             let search = Search {
                 net: stated,
                 goal: Goal { name, from, to },
-                workers,
             };
-            Ok(search.answered(rt, alloc, gate, shown, closed)?)
+            Ok(search.answered(&workers, shown, closed)?)
         }
         Verdict::Refuted(refutation) => Ok(Deadline::NotControllable { refutation }),
     }

@@ -1,6 +1,6 @@
 //! The start of an execution over lines of events.
 
-ghost use Rattle.std.specs.Prelude.{◌≡◌, ◌≤◌, [], IfOk, OnOk, IfSome};
+ghost use Rattle.std.specs.Prelude.{◌≡◌, ◌≤◌, IfOk, OnOk, IfSome};
 ghost use Rattle.desk_feeding.specs.Fed.{most_feeders};
 ghost use Rattle.forward_executor.specs.ForwardExecutions.{IsForwardDispatch};
 ghost use Rattle.command_engine.specs.Machine.{HasCapacity};
@@ -20,14 +20,14 @@ use std::alloc::{AllocError, Global};
 
 /// Starts the execution of a controllable network without a delay by the dispatchable network of a
 /// forward closed table, such as its closure, and prints that the network is controllable, and the
-/// first due moment. `AllocError` comes only if memory is refused.
+/// first due moment, in place of what stood in the buffer. `AllocError` comes only if memory is
+/// refused.
 pub fn begin_dispatched(
     alloc: Global,
     answer: &mut Answer,
     net: Network,
     dispatch: Dispatch,
 ) -> Result<Flow<Executing>, AllocError>
-    requires empty { answer.old.text ≡ [] }
     requires dispatch { IsForwardDispatch net dispatch }
     ensures begins { IfOk result (BeginsExecution net answer.new.text) }
     ensures spare_capacity { IfOk result
@@ -47,7 +47,6 @@ pub fn begin_with_feeders(
     dispatch: Dispatch,
     feeders: Option<u32>,
 ) -> Result<Flow<Executing>, AllocError>
-    requires empty { answer.old.text ≡ [] }
     requires dispatch { IsForwardDispatch net dispatch }
     requires feeders { IfSome feeders (λ count. (1 ≤ count) × (count ≤ most_feeders)) }
     ensures begins { IfOk result (BeginsExecutionBy
@@ -63,13 +62,13 @@ pub fn begin_with_feeders(
     Ok(Flow::Continue(state))
 }
 
-/// Prints that a network is controllable, and the first due moment of its execution, and reserves
-/// the capacity that the answers to events need.
+/// Prints that a network is controllable, and the first due moment of its execution, in place of
+/// what stood in the buffer, and reserves the capacity that the answers to events need.
 fn put_start(answer: &mut Answer, state: &Executing) -> Result<(), AllocError>
-    requires { answer.old.text ≡ [] }
     ensures put { OnOk result (PutsStart state.now.execution answer.new.text) }
     ensures spare_capacity { OnOk result (answer_capacity state.now.net ≤ answer.new.capacity) }
 {
+    answer.clear();
     state.reserve(answer)?;
     answer.put_line(&[Word::Text("controllable")]);
     put_due(answer, state.next_due());

@@ -1,6 +1,6 @@
 //! The phase in which a network is executed over lines of events, whatever command opens it.
 
-ghost use Rattle.std.specs.Prelude.{◌≡◌, ◌≤◌, [], length, IfOk, OnOk, IfSome};
+ghost use Rattle.std.specs.Prelude.{◌≡◌, ◌≤◌, length, IfOk, OnOk, IfSome};
 ghost use Rattle.std.specs.List.{All};
 ghost use Rattle.net_model.specs.Limits.{most_moment};
 ghost use Rattle.net_model.specs.Network.{IsPoint};
@@ -159,7 +159,8 @@ impl Command for Executing {
     }
 }
 
-/// Answers what a line of events states; the reader has the points that it names.
+/// Answers what a line of events states, in place of what stood in the buffer; the reader has the
+/// points that it names.
 fn answer_event<R: Threads + Sync>(
     rt: &R,
     parts: ExecutingParts,
@@ -167,7 +168,6 @@ fn answer_event<R: Threads + Sync>(
     number: u32,
     event: Event,
 ) -> Flow<Executing>
-    requires empty { answer.old.text ≡ [] }
     requires spare_capacity { answer_capacity parts.net ≤ answer.old.capacity }
     requires parts { AreExecutingParts parts }
     requires points { HasPoints parts.net event parts.events }
@@ -178,7 +178,10 @@ fn answer_event<R: Threads + Sync>(
     ensures kept { GoesWith parts.net result }
 {
     match event {
-        Event::Blank => Flow::Continue(Executing { parts }),
+        Event::Blank => {
+            answer.clear();
+            Flow::Continue(Executing { parts })
+        }
         Event::At(moment) => feed(rt, parts, answer, number, moment),
         Event::Done => Flow::Finish(finish(parts, answer, number)),
     }
@@ -193,7 +196,6 @@ fn feed<R: Threads + Sync>(
     number: u32,
     moment: u64,
 ) -> Flow<Executing>
-    requires empty { answer.old.text ≡ [] }
     requires spare_capacity { answer_capacity parts.net ≤ answer.old.capacity }
     requires parts { AreExecutingParts parts }
     requires points { All (IsPoint parts.net) parts.events }
@@ -234,7 +236,6 @@ fn feed_named<R: Threads + Sync>(rt: &R, parts: &mut ExecutingParts, moment: u64
 
 /// Ends the execution, and puts the acts that remain, or why it can't end.
 fn finish(parts: ExecutingParts, answer: &mut Answer, number: u32) -> End
-    requires empty { answer.old.text ≡ [] }
     requires spare_capacity { answer_capacity parts.net ≤ answer.old.capacity }
     requires parts { AreExecutingParts parts }
     ensures answers { AnswersEvent (event_run_in parts) number done answer.new.text
@@ -250,9 +251,9 @@ fn finish(parts: ExecutingParts, answer: &mut Answer, number: u32) -> End
     put_end(answer, &net, number, finished, executor.acts())
 }
 
-/// Puts the answer to a feed of an execution into the buffer, which is empty: its acts and the next
-/// due moment after it, or why it is refused, in the line of this number. `None` if the execution
-/// continues, else how that ends. It takes no memory.
+/// Puts the answer to a feed of an execution in place of what stood in the buffer: its acts and the
+/// next due moment after it, or why it is refused, in the line of this number. `None` if the
+/// execution continues, else how that ends. It takes no memory.
 pub fn put_fed(
     answer: &mut Answer,
     net: &Network,
@@ -261,7 +262,6 @@ pub fn put_fed(
     acts: &[Act],
     due: Option<u64>,
 ) -> Option<End>
-    requires empty { answer.old.text ≡ [] }
     requires spare_capacity { answer_capacity net.now ≤ answer.old.capacity }
     requires points { FeedsAmong net.now fed acts.now }
     ensures answers { PutsFed net.now number fed acts.now due answer.new.text result }
@@ -270,6 +270,7 @@ pub fn put_fed(
 {
     match fed {
         Fed::Acts => {
+            answer.clear();
             put_acts(answer, net, acts);
             put_due(answer, due);
             None
@@ -278,7 +279,7 @@ pub fn put_fed(
     }
 }
 
-/// Puts the answer to the end of an execution into the buffer, which is empty: the acts that
+/// Puts the answer to the end of an execution in place of what stood in the buffer: the acts that
 /// remained, or why it can't end, in the line of this number; and how that ends. It takes no
 /// memory.
 pub fn put_end(
@@ -288,7 +289,6 @@ pub fn put_end(
     finished: Finished,
     acts: &[Act],
 ) -> End
-    requires empty { answer.old.text ≡ [] }
     requires spare_capacity { answer_capacity net.now ≤ answer.old.capacity }
     requires points { EndsAmong net.now finished acts.now }
     ensures answers { AnswersEnd net.now number finished acts.now answer.new.text (Finish result) }
@@ -297,6 +297,7 @@ pub fn put_end(
 {
     match finished {
         Finished::Complete => {
+            answer.clear();
             put_acts(answer, net, acts);
             put_complete(answer);
             End::Done

@@ -21,6 +21,8 @@ mod edit_comparison;
 mod edited_network;
 mod ending;
 #[cfg(test)]
+mod forward_tables;
+#[cfg(test)]
 mod kept_nodes;
 #[cfg(test)]
 mod names;

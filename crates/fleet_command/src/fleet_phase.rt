@@ -1,6 +1,6 @@
 //! The plans of a fleet after `go`, and the answers to their lines.
 
-ghost use Rattle.std.specs.Prelude.{◌≡◌, ◌<◌, ◌≤◌, [], length};
+ghost use Rattle.std.specs.Prelude.{◌<◌, ◌≤◌, length};
 ghost use Rattle.texts.specs.Limits.{most_line};
 ghost use Rattle.fleet_command.specs.FleetCommand.{plans_machine};
 ghost use Rattle.fleet_command.specs.FleetStands.{AnswersMember, fleet_capacity};
@@ -81,7 +81,7 @@ impl Command for Serving {
 }
 
 /// Answers a line of the plan at a place among the entries, which stands there without the name, by
-/// the plan's own count of its lines.
+/// the plan's own count of its lines. The answer stands in place of what stood in the buffer.
 fn answer_line(
     serving: Serving,
     answer: &mut Answer,
@@ -89,7 +89,6 @@ fn answer_line(
     number: u32,
     line: &[u8],
 ) -> Serving
-    requires empty { answer.old.text ≡ [] }
     requires spare_capacity { fleet_capacity serving ≤ answer.old.capacity }
     requires within { place < length serving }
     requires line { length line.now ≤ most_line }
@@ -97,6 +96,7 @@ fn answer_line(
     ensures spare_capacity { fleet_capacity result ≤ answer.new.capacity }
 {
     answer.has_capacity();
+    answer.clear();
     let Serving {
         mut answerer,
         mut entries,

@@ -1,6 +1,6 @@
 //! The command `fleet`, and what it puts at `go`.
 
-ghost use Rattle.std.specs.Prelude.{◌≡◌, ◌≤◌, ◌<◌, [], length, OnOk, slice_get, Some};
+ghost use Rattle.std.specs.Prelude.{◌≡◌, ◌≤◌, ◌<◌, length, OnOk, slice_get, Some};
 ghost use Rattle.net_model.specs.Limits.{most_points};
 ghost use Rattle.multiplexed_commands.specs.NamedLines.{IsOfWholeLines};
 ghost use Rattle.texts.specs.PrintedLines.{printed_line};
@@ -155,57 +155,55 @@ fn most_points(fleet: &Fleet, count: u32) -> usize
     most
 }
 
-/// Puts of each plan how it begins, after its name. `AllocError` comes only for want of memory.
+/// Puts of each plan how it begins, after its name, in place of what stood in the buffer.
+/// `AllocError` comes only for want of memory.
 fn put_starts(
     answer: &mut Answer,
     said: &mut Answer,
     fleet: &Fleet,
     entries: &[FleetEntry],
 ) -> Result<(), AllocError>
-    requires empty { answer.old.text ≡ [] }
     requires placed { (at place : _) (entry : _) → slice_get entries.now at ≡ Some entry
         → entry.slot ≡ Opened place → place < length fleet.now }
     ensures { OnOk result (BeginsAll fleet.now entries.now answer.new.text) }
 {
+    answer.clear();
     for entry in entries {
-        said.clear();
         say_start(said, fleet, entry.slot);
         push_named(answer, entry.name.bytes(), said.bytes())?;
     }
     Ok(())
 }
 
-/// Puts how one plan begins into the buffer, which is empty.
+/// Puts how one plan begins in place of what stood in the buffer.
 fn say_start(said: &mut Answer, fleet: &Fleet, slot: FleetSlot)
-    requires empty { said.old.text ≡ [] }
     requires placed { (place : _) → slot ≡ Opened place → place < length fleet.now }
     ensures says { SlotBegins fleet.now slot said.new.text }
     ensures whole { IsOfWholeLines said.new.text }
 {
-    said.has_capacity();
     match slot {
         FleetSlot::Refused(why) => say_refusal(said, why),
         FleetSlot::Opened(place) => {
             if fleet.state(place) == State::Running {
+                said.has_capacity();
+                said.clear();
                 said.put_line(&[Word::Text("controllable")]);
                 put_due(said, fleet.next_due(place));
             } else {
-                said.put_line(&[Word::Text("not controllable")]);
+                said.refuse(&[Word::Text("not controllable")]);
             }
         }
     }
 }
 
-/// Puts which part of a plan is refused into the buffer, which is empty.
+/// Puts which part of a plan is refused in place of what stood in the buffer.
 fn say_refusal(said: &mut Answer, why: BuildFault)
-    requires { said.old.text ≡ [] }
     ensures { said.new.text ≡ printed_line (refusal_words why) }
 {
-    said.has_capacity();
     let place = Word::Number(u64::from(why.place().unwrap_or(0)));
     match why {
         BuildFault::Limit(which, _) => {
-            said.put_line(&[
+            said.refuse(&[
                 Word::Text("refused"),
                 Word::Text("limit"),
                 place,
@@ -213,7 +211,7 @@ fn say_refusal(said: &mut Answer, why: BuildFault)
             ]);
         }
         _ => {
-            said.put_line(&[
+            said.refuse(&[
                 Word::Text("refused"),
                 Word::Text("plan"),
                 place,

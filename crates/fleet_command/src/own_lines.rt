@@ -1,6 +1,6 @@
 //! The answer to a line of one plan of a fleet, without the plan's name.
 
-ghost use Rattle.std.specs.Prelude.{◌≡◌, ◌<◌, ◌≤◌, [], false, length};
+ghost use Rattle.std.specs.Prelude.{◌≡◌, ◌<◌, ◌≤◌, false, length};
 ghost use Rattle.std.specs.List.{All};
 ghost use Rattle.net_model.specs.Network.{IsPoint};
 ghost use Rattle.texts.specs.Limits.{most_line};
@@ -30,8 +30,8 @@ pub(crate) struct FleetAnswerer {
 }
 
 impl FleetAnswerer {
-    /// Answers a line of one plan by its number among its own, in the buffer: one that runs by its
-    /// execution, and every other by `idle`.
+    /// Answers a line of one plan by its number among its own, in place of what stood in the buffer:
+    /// one that runs by its execution, and every other by `idle`.
     pub(crate) fn answer(&mut self, slot: FleetSlot, number: u32, line: &[u8])
         requires placed { (place : _) → slot ≡ Opened place → place < length self.old.fleet }
         requires spare_capacity { HaveCapacity self.old.fleet self.old.said.capacity }
@@ -42,20 +42,20 @@ impl FleetAnswerer {
             (slot_stands self.old.fleet slot) }
         ensures capacity { self.old.said.capacity ≤ self.new.said.capacity }
     {
-        self.said.clear();
         match slot {
             FleetSlot::Opened(place) => self.answer_opened(place, number, line),
             FleetSlot::Refused(_) => {
                 if first_word(line).is_some() {
                     put_idle(&mut self.said);
+                } else {
+                    self.said.clear();
                 }
             }
         }
     }
 
-    /// Answers a line of a plan that was opened, in the buffer, which is empty.
+    /// Answers a line of a plan that was opened, in place of what stood in the buffer.
     fn answer_opened(&mut self, place: u32, number: u32, line: &[u8])
-        requires empty { self.old.said.text ≡ [] }
         requires spare_capacity { HasCapacityAt self.old.fleet place self.old.said.capacity }
         requires line { length line.now ≤ most_line }
         ensures changes { ChangesOne self.old.fleet place
@@ -65,17 +65,16 @@ impl FleetAnswerer {
         ensures capacity { self.old.said.capacity ≤ self.new.said.capacity }
     {
         match self.events.read(line, self.fleet.network(place)) {
-            Ok(Event::Blank) => {}
+            Ok(Event::Blank) => self.said.clear(),
             Ok(Event::At(moment)) => self.feed(place, number, moment),
             Ok(Event::Done) => self.finish(place, number),
             Err(kind) => self.end(place, number, kind),
         }
     }
 
-    /// Feeds a plan the points that the reader has, and puts the answer into the buffer, which is
-    /// empty.
+    /// Feeds a plan the points that the reader has, and puts the answer in place of what stood in
+    /// the buffer.
     fn feed(&mut self, place: u32, number: u32, moment: u64)
-        requires empty { self.old.said.text ≡ [] }
         requires spare_capacity { HasCapacityAt self.old.fleet place self.old.said.capacity }
         requires points { AtPlan self.old.fleet place
             (λ plan. All (IsPoint plan.net) self.old.events) }
@@ -106,9 +105,8 @@ impl FleetAnswerer {
         }
     }
 
-    /// Ends the execution of a plan, and puts the answer into the buffer, which is empty.
+    /// Ends the execution of a plan, and puts the answer in place of what stood in the buffer.
     fn finish(&mut self, place: u32, number: u32)
-        requires empty { self.old.said.text ≡ [] }
         requires spare_capacity { HasCapacityAt self.old.fleet place self.old.said.capacity }
         ensures changes { ChangesOne self.old.fleet place
             (SaysStated number done self.new.said.text) self.new.fleet }
@@ -132,10 +130,9 @@ impl FleetAnswerer {
         }
     }
 
-    /// Ends a plan that runs, for the fault of its line, and puts the answer into the buffer, which
-    /// is empty.
+    /// Ends a plan that runs, for the fault of its line, and puts the answer in place of what stood
+    /// in the buffer.
     fn end(&mut self, place: u32, number: u32, kind: FormatKind)
-        requires empty { self.old.said.text ≡ [] }
         requires place { place < length self.old.fleet }
         ensures changes { (line : _)
             → AtPlan self.old.fleet place (λ plan. IsEventFault plan.net line kind)
@@ -154,13 +151,11 @@ impl FleetAnswerer {
     }
 }
 
-/// Puts that a plan is idle into the buffer, which is empty.
+/// Puts that a plan is idle in place of what stood in the buffer.
 fn put_idle(said: &mut Answer)
-    requires { said.old.text ≡ [] }
     ensures text { said.new.text ≡ idle_said false }
     ensures size { length said.new.text ≤ idle_capacity }
     ensures capacity { said.old.capacity ≤ said.new.capacity }
 {
-    said.has_capacity();
-    said.put_line(&[Word::Text("idle")]);
+    said.refuse(&[Word::Text("idle")]);
 }

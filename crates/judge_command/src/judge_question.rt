@@ -1,6 +1,6 @@
 //! The command `judge`: a plan, and after it a certificate of one of two kinds, which is judged.
 
-ghost use Rattle.std.specs.Prelude.{◌≡◌, [], IfOk, OnOk, ◌++◌};
+ghost use Rattle.std.specs.Prelude.{◌≡◌, IfOk, OnOk};
 ghost use Rattle.std.specs.Option.{option_map};
 ghost use Rattle.judge_command.specs.JudgePromise.{JudgePromise};
 ghost use Rattle.judge_command.specs.JudgeAnswers.{judge_answers, judge_request, judge_given};
@@ -120,7 +120,7 @@ fn judge_given(strong: bool, json: bool, delay: Option<&str>) -> Option<Judge>
     Some(Judge { form, kind })
 }
 
-/// Puts the judgement of a certificate of a network into the buffer, which is empty.
+/// Puts the judgement of a certificate of a network in place of what stood in the buffer.
 fn put_control<R: Threads + Sync>(
     rt: &R,
     alloc: Global,
@@ -128,7 +128,6 @@ fn put_control<R: Threads + Sync>(
     net: &Network,
     cert: &Certificate,
 ) -> Result<End, AllocError>
-    requires { answer.old.text ≡ [] }
     ensures { IfOk result (PutsProof net.now (Proof.Control cert.now) answer.new.text) }
 {
     let judgement = judge(rt, alloc, net, cert)?;
@@ -136,14 +135,13 @@ fn put_control<R: Threads + Sync>(
     Ok(judgement_end(&judgement))
 }
 
-/// Puts the judgement of a strong certificate of a network into the buffer, which is empty.
+/// Puts the judgement of a strong certificate of a network in place of what stood in the buffer.
 fn put_strong(
     alloc: Global,
     answer: &mut Answer,
     net: &Network,
     cert: &StrongCert,
 ) -> Result<End, AllocError>
-    requires { answer.old.text ≡ [] }
     ensures { IfOk result (PutsProof net.now (Proof.Strong cert.now) answer.new.text) }
 {
     let judgement = judge_strong(net, cert);
@@ -151,16 +149,16 @@ fn put_strong(
     Ok(strong_judgement_end(&judgement))
 }
 
-/// Puts the line of a judgement of a strong certificate into the buffer.
+/// Puts the line of a judgement of a strong certificate in place of what stood in the buffer.
 fn put_strong_judgement(
     alloc: Global,
     answer: &mut Answer,
     judgement: &StrongJudgement,
 ) -> Result<(), AllocError>
-    ensures { OnOk result (answer.new.text ≡ answer.old.text ++ strong_judgement_line
-        judgement.now) }
+    ensures { OnOk result (answer.new.text ≡ strong_judgement_line judgement.now) }
 {
     let text = judgement.to_string(alloc)?;
+    answer.clear();
     answer.push_line(&[Word::Text(text.as_str())])
 }
 
@@ -173,15 +171,16 @@ fn strong_judgement_end(judgement: &StrongJudgement) -> End
     }
 }
 
-/// Puts the line of a judgement into the buffer.
+/// Puts the line of a judgement in place of what stood in the buffer.
 fn put_judgement(
     alloc: Global,
     answer: &mut Answer,
     judgement: &Judgement,
 ) -> Result<(), AllocError>
-    ensures { OnOk result (answer.new.text ≡ answer.old.text ++ judgement_line judgement.now) }
+    ensures { OnOk result (answer.new.text ≡ judgement_line judgement.now) }
 {
     let text = judgement.to_string(alloc)?;
+    answer.clear();
     answer.push_line(&[Word::Text(text.as_str())])
 }
 

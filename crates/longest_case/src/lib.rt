@@ -2,6 +2,7 @@
 //! takes its longest duration excludes every schedule.
 #![tactic(auto)]
 
+mod edge_ends;
 mod longest;
 mod loop_check;
 mod loop_search;

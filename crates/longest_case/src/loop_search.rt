@@ -5,11 +5,12 @@ ghost use Rattle.std.specs.Prelude.{◌≡◌, true, IfOk, IfSome};
 ghost use Rattle.std.specs.List.{All, Contains};
 ghost use Rattle.longest_case.specs.Loops.{HasNegativeLoop};
 
+use crate::edge_ends::EdgeEnds;
 use crate::loop_check::is_negative_loop;
 use net_model::{Edge, PointId};
 use std::alloc::{AllocError, Global};
 
-/// How many times the edges are gone over at most: a loop that is not found by then is not looked
+/// How many times the points are gone over at most: a loop that is not found by then is not looked
 /// for any longer.
 const PASSES: usize = 32;
 
@@ -18,6 +19,8 @@ const PASSES: usize = 32;
 struct Raised {
     moments: Vec<u64>,
     by: Vec<Option<usize>>,
+    /// Whether each point was raised since the edges that end in it were gone over.
+    waits: Vec<bool>,
 }
 
 /// Whether a loop of edges of negative total is found among edges between so many points. If none
@@ -25,12 +28,14 @@ struct Raised {
 pub(crate) fn has_loop(alloc: Global, points: usize, edges: &[Edge]) -> Result<bool, AllocError>
     ensures { IfOk result (λ found. found ≡ true → HasNegativeLoop edges.now) }
 {
+    let ends = EdgeEnds::of(alloc, points, edges)?;
     let mut raised = Raised {
         moments: vec![in alloc; 0; points]?,
         by: vec![in alloc; None; points]?,
+        waits: vec![in alloc; true; points]?,
     };
-    for _ in 0..PASSES {
-        let Some(last) = raised.raise_all(edges) else {
+    for pass in 0..PASSES {
+        let Some(last) = raised.raise_all(edges, &ends, pass % 2 == 1) else {
             return Ok(false);
         };
         let walk = raised.loop_from(alloc, edges, last)?;
@@ -42,14 +47,47 @@ pub(crate) fn has_loop(alloc: Global, points: usize, edges: &[Edge]) -> Result<b
 }
 
 impl Raised {
-    /// Raises the point in which each edge begins, one edge after another, as far as the edge
-    /// requires. Returns the last point that was raised.
-    fn raise_all(&mut self, edges: &[Edge]) -> Option<PointId> {
+    /// Goes over the points that wait, from the first to the last or back, and raises the points in
+    /// which the edges begin that end in them (Yen 1970). Returns the last point that was raised.
+    fn raise_all(&mut self, edges: &[Edge], ends: &EdgeEnds, back: bool) -> Option<PointId> {
+        let points = self.waits.len();
         let mut last = None;
-        for (place, edge) in edges.iter().enumerate() {
-            if self.raise(place, edge) {
-                last = Some(edge.from);
+        for number in 0..points {
+            let to = if back { points - 1 - number } else { number };
+            if self.stops_waiting(to) {
+                last = self.raise_before(edges, ends, to).or(last);
             }
+        }
+        last
+    }
+
+    /// Whether a point waits; it does so no longer.
+    fn stops_waiting(&mut self, point: usize) -> bool {
+        match self.waits.get_mut(point) {
+            None => false,
+            Some(waits) => {
+                let waited = *waits;
+                *waits = false;
+                waited
+            }
+        }
+    }
+
+    /// Raises the points in which the edges begin that end in a point, one edge after another, as
+    /// far as the edge requires. Returns the last point that was raised.
+    fn raise_before(&mut self, edges: &[Edge], ends: &EdgeEnds, to: usize) -> Option<PointId> {
+        let mut last = None;
+        let mut next = ends.last_into(to);
+        for _ in 0..edges.len() {
+            let Some(place) = next else {
+                return last;
+            };
+            if let Some(edge) = edges.get(place) {
+                if self.raise(place, edge) {
+                    last = Some(edge.from);
+                }
+            }
+            next = ends.before(place);
         }
         last
     }
@@ -59,7 +97,8 @@ impl Raised {
     fn raise(&mut self, place: usize, edge: &Edge) -> bool {
         let from = edge.from.0 as usize;
         let to = edge.to.0 as usize;
-        if from >= self.moments.len() || from >= self.by.len() || to >= self.moments.len() {
+        let points = self.moments.len().min(self.by.len()).min(self.waits.len());
+        if from >= points || to >= points {
             return false;
         }
         let required_moment = required_moment(self.moments[to], edge);
@@ -68,6 +107,7 @@ impl Raised {
         }
         self.moments[from] = required_moment;
         self.by[from] = Some(place);
+        self.waits[from] = true;
         true
     }
 

@@ -1,4 +1,6 @@
 pub mod FoundLemmas
 mod SuccessorLemmas
 mod FreeLemmas
+mod OpenLemmas
+mod PlacementLemmas
 mod KeptLemmas

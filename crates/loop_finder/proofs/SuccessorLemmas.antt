@@ -37,7 +37,7 @@ from_test k entry = is_negative_entry entry && entry.from.0 == k
 abbrev pub added : PointId → ℕ → List Entry → List PointId
 added to k entries = map (λ (entry : Entry). to) (filter (λ (entry : Entry). is_negative_entry entry && entry.from.0 == k) entries)
 
-added_more : (to : PointId) (k i : ℕ) (entries : List Entry) (d : Entry) → i < length entries
+pub added_more : (to : PointId) (k i : ℕ) (entries : List Entry) (d : Entry) → i < length entries
     → added to k (take (i + 1) entries) ≡ added to k (take i entries) ++ cond (is_negative_entry (get_or entries i d) && (get_or entries i d).from.0 == k) (to ∷ []) []
 added_more to k i entries d inside =
     let test : Entry → Bool = λ entry. is_negative_entry entry && entry.from.0 == k in
@@ -225,7 +225,7 @@ module _ (to : PointId) (k : ℕ) where
                 one true = (λ i. map (λ (edge : Edge). to) (cond (is i) (edge_of (ordinary_key (point a) to) w ∷ nothing i) (nothing i)))
                 one false = ap (map (λ (edge : Edge). to)) nothing
 
-    all_added : (entries : List Entry) → ordinary_edges to entries ≡ ordinary_into graph to → k < graph.shape.points → added to k entries ≡ cond (goes graph (point k) to) (to ∷ []) []
+    pub all_added : (entries : List Entry) → ordinary_edges to entries ≡ ordinary_into graph to → k < graph.shape.points → added to k entries ≡ cond (goes graph (point k) to) (to ∷ []) []
     all_added entries are inside =
         same_count (filter (λ (entry : Entry). is_negative_entry entry && entry.from.0 == k) entries)
         ∙ ap (map (λ (edge : Edge). to)) (filtered entries ∙ ap tested are)

@@ -1,4 +1,5 @@
 pub mod OrderOrCycle
 pub mod NegativeSuccessors
 pub mod Marks
+pub mod OpenEdges
 pub mod KeptOrders

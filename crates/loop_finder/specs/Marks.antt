@@ -1,8 +1,7 @@
--- How the points that are placed, and how far the list of each point was looked through, are kept.
+-- How the points that are placed, and how far a list of points was looked through, are kept.
 use Rattle.std.specs.Prelude.{◌≡◌, ◌<◌, ◌≤◌, ℕ, Bool, true, false, List, length, slice_index_or}
 use Rattle.net_model.specs.declared.ids.PointId.{PointId}
 use Rattle.closure_model.specs.Orders.{contains_point}
-use Rattle.loop_finder.specs.NegativeSuccessors.{targets_of, point}
 
 -- a mark for each point says whether it stands in a list
 abbrev pub AreMarks : List PointId → List Bool → Type 0
@@ -12,7 +11,3 @@ AreMarks points marks = (k : ℕ) → k < length marks → slice_index_or marks 
 pub record IsHead (placed targets : List PointId) (head : ℕ) : Type 0 where
   pub inside : head ≤ length targets
   pub placed_before : (k : ℕ) (d : PointId) → k < head → contains_point placed (slice_index_or targets k d) ≡ true
-
--- below the head of each point its list is placed
-abbrev pub AreHeads : List (List PointId) → List PointId → List ℕ → Type 0
-AreHeads lists placed heads = (from : ℕ) → from < length heads → IsHead placed (targets_of lists (point from)) (slice_index_or heads from 0)

@@ -1,5 +1,5 @@
 -- Where the negative ordinary edges of a table go.
-use Rattle.std.specs.Prelude.{◌≡◌, ◌<◌, ◌&&◌, ℕ, pos, int_lt, not, is_none, Bool, List, [], ◌∷◌, ◌++◌, length, filter, find, Option, slice_index_or, slice_set}
+use Rattle.std.specs.Prelude.{◌≡◌, ◌<◌, ◌&&◌, ℕ, pos, int_lt, not, Bool, List, [], ◌∷◌, ◌++◌, length, filter, find, Option, slice_index_or, slice_set}
 use Rattle.std.specs.Prelude.{if◌then◌else◌}
 use Rattle.std.specs.List.{All}
 use Rattle.net_model.specs.declared.ids.PointId.{PointId}
@@ -33,10 +33,6 @@ pub record AreNegativeSuccessors (graph : Graph) (lists : List (List PointId)) :
 -- the first point of the list of a point that is not placed
 abbrev pub next_in : List (List PointId) → List PointId → PointId → Option PointId
 next_in lists placed from = find (λ to. not (contains_point placed to)) (targets_of lists from)
-
--- a point is free by the lists: it is not placed, and all points of its list are
-abbrev pub is_free_in : List (List PointId) → List PointId → PointId → Bool
-is_free_in lists placed from = not (contains_point placed from) && is_none (next_in lists placed from)
 
 -- the points of the lists are below a number
 abbrev pub AreTargetsWithin : List (List PointId) → ℕ → Type 0

@@ -4,6 +4,7 @@
 
 mod kept_order;
 mod laws;
+mod open_edges;
 mod order_or_cycle;
 mod placement;
 mod successors;

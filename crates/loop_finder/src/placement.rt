@@ -1,22 +1,24 @@
 //! The search for an order of the points of a table, or a cycle of negative ordinary edges.
 
-ghost use Rattle.std.specs.Prelude.{◌≡◌, ◌<◌, ◌≤◌, ◌&&◌, ◌++◌, ◌==◌, ◌∷◌, [], ℕ, length, not};
-ghost use Rattle.std.specs.Prelude.{false, find, drop, IfOk, OnOk, map, is_none, slice_index_or};
+ghost use Rattle.std.specs.Prelude.{◌≡◌, ◌<◌, ◌≤◌, ◌++◌, ◌==◌, ◌∷◌, [], length, not, find, drop};
+ghost use Rattle.std.specs.Prelude.{IfOk, OnOk, map};
 ghost use Rattle.std.specs.List.{All, position_or_len, range_with_len};
-ghost use Rattle.std.specs.Option.{option_to_list};
-ghost use Rattle.net_model.specs.declared.ids.PointId.{PointId};
-ghost use Rattle.closure_model.specs.Orders.{contains_point, placed_points, cycle_from};
+ghost use Rattle.closure_model.specs.Keys.{all_points};
+ghost use Rattle.closure_model.specs.Orders.{contains_point, cycle_from, is_free, place_next};
+ghost use Rattle.closure_model.specs.Orders.{placed_points};
 ghost use Rattle.closure_model.specs.Tables.{Graph};
 ghost use Rattle.loop_finder.specs.OrderOrCycle.{found_in, IsWhatItSays};
-ghost use Rattle.loop_finder.specs.Marks.{AreMarks, IsHead, AreHeads};
+ghost use Rattle.loop_finder.specs.Marks.{AreMarks};
 ghost use Rattle.loop_finder.specs.NegativeSuccessors.{AreNegativeSuccessors, AreTargetsWithin};
-ghost use Rattle.loop_finder.specs.NegativeSuccessors.{is_free_in, point};
+ghost use Rattle.loop_finder.specs.OpenEdges.{IsPlacement};
 
+use crate::open_edges::{close_edges, edge_counts, free_points};
 use crate::order_or_cycle::Found;
 use crate::successors::{Targets, negative_successors};
 use labelled_graph::Table;
 use net_model::{Items, PointId};
 use std::alloc::{AllocError, Global};
+use tournament_queue::DueQueue;
 
 /// Points in an order, with a mark for each point that says whether it is among them.
 #[derive(Drop)]
@@ -62,21 +64,22 @@ impl Marked {
 /// no point can be placed, the cycle is followed from the lowest point left, always to the lowest
 /// point left. A table with an order has no cycle (`law_orders_exclude_cycles` of closure_model),
 /// so a cycle is answered exactly if there is one. `points` is how many points the table is for.
-/// Each entry of the table is read once, which is no clause. `AllocError` comes only for want of
-/// memory.
+/// Each entry of the table is read twice, and for a cycle once more, and a point takes as many
+/// steps as the number of points has binary digits; that is no clause. `AllocError` comes only for want
+/// of memory.
 pub fn order(alloc: Global, table: &Table, points: u32) -> Result<Found, AllocError>
     requires { points ≡ table.now.shape.points }
     ensures found { IfOk result (λ found. found ≡ found_in table.now) }
     ensures says { IfOk result (IsWhatItSays table.now) }
 {
-    let lists = negative_successors(alloc, table, points)?;
-    let placed = place_all(alloc, lists.as_slice(), points)?;
+    let placed = place_all(alloc, table, points)?;
     match lowest_unplaced(&placed, points) {
         None => {
             let Marked { order, .. } = placed;
             Ok(Found::Order(Items::new(order)))
         }
         Some(first) => {
+            let lists = negative_successors(alloc, table, points)?;
             let cycle = cycle_from(alloc, lists.as_slice(), &placed, points, first)?;
             Ok(Found::Cycle(Items::new(cycle)))
         }
@@ -96,105 +99,72 @@ fn next_in(targets: &[PointId], placed: &Marked) -> Option<PointId>
     None
 }
 
-/// The place of the first point of a list that is not placed, or the length of the list; no point
-/// below `head` is.
-fn first_open(targets: &[PointId], placed: &Marked, head: usize) -> usize
-    requires within { All (λ to. to.0 < length placed.now.marks.items) targets.now }
-    requires head { IsHead placed.now.order.items targets.now head }
-    ensures head { IsHead placed.now.order.items targets.now result }
-    ensures open { result < length targets.now → (d : PointId)
-        → contains_point placed.now.order.items (slice_index_or targets.now result d) ≡ false }
-{
-    for place in head..targets.len() {
-        if !placed.has(targets[place].0) {
-            return place;
+/// The points that are placed so far, and what is known of the others.
+#[derive(Drop)]
+struct Placement {
+    placed: Marked,
+    /// For each point how many negative ordinary edges go from it to points that are not placed.
+    left: Vec<usize>,
+    free: DueQueue,
+}
+
+impl Placement {
+    /// The placement of no points of a table.
+    fn none(alloc: Global, table: &Table, points: u32) -> Result<Placement, AllocError>
+        requires { points ≡ table.now.shape.points }
+        ensures placement { IfOk result (λ placement. IsPlacement table.now
+            placement.placed.order.items placement.left.items placement.free) }
+        ensures placed { IfOk result (λ placement. placement.placed.order.items ≡ []) }
+        ensures marks { IfOk result (λ placement. length placement.placed.marks.items ≡ points) }
+    {
+        let placed = Marked::none(alloc, points)?;
+        let left = edge_counts(alloc, table, points)?;
+        let free = free_points(alloc, left.as_slice())?;
+        Ok(Placement { placed, left, free })
+    }
+
+    /// The lowest free point, if there is one.
+    fn lowest_free(&self) -> Option<PointId>
+        ensures { (graph : Graph) → IsPlacement graph self.now.placed.order.items
+            self.now.left.items self.now.free → result ≡ find (is_free graph
+            self.now.placed.order.items) (all_points graph.shape) }
+    {
+        let (_, point) = self.free.first()?;
+        Some(point)
+    }
+
+    /// Places the lowest free point, if there is one.
+    fn place_next(&mut self, table: &Table) -> Result<(), AllocError>
+        requires marks { length self.old.placed.marks.items ≡ table.now.shape.points }
+        requires placement { IsPlacement table.now self.old.placed.order.items
+            self.old.left.items self.old.free }
+        ensures placement { OnOk result (IsPlacement table.now self.new.placed.order.items
+            self.new.left.items self.new.free) }
+        ensures placed { OnOk result (self.new.placed.order.items
+            ≡ place_next table.now self.old.placed.order.items) }
+        ensures marks { OnOk result (length self.new.placed.marks.items
+            ≡ length self.old.placed.marks.items) }
+    {
+        if let Some(point) = self.lowest_free() {
+            self.placed.push(point)?;
+            self.free.set(point, None);
+            close_edges(table, point, &mut self.left, &mut self.free);
         }
+        Ok(())
     }
-    targets.len()
-}
-
-/// Whether a point is free: it is not placed, and all points of its list are. The head rises to the
-/// first that is not.
-fn is_free_by_head(targets: &[PointId], placed: &Marked, from: PointId, head: &mut usize) -> bool
-    requires from { from.0 < length placed.now.marks.items }
-    requires within { All (λ to. to.0 < length placed.now.marks.items) targets.now }
-    requires head { IsHead placed.now.order.items targets.now head.old }
-    ensures free { result ≡ not (contains_point placed.now.order.items from) && is_none
-        (find (λ to. not (contains_point placed.now.order.items to)) targets.now) }
-    ensures head { IsHead placed.now.order.items targets.now head.new }
-{
-    if placed.has(from.0) {
-        return false;
-    }
-    *head = first_open(targets, placed, *head);
-    *head == targets.len()
-}
-
-/// The lowest free point. How far each list was looked through is kept in its head.
-fn lowest_free(
-    lists: &[Targets],
-    placed: &Marked,
-    points: u32,
-    heads: &mut [usize],
-) -> Option<PointId>
-    requires lists { length lists.now ≡ points }
-    requires marks { length placed.now.marks.items ≡ points }
-    requires within { AreTargetsWithin lists.now points }
-    requires head_count { length heads.old ≡ points }
-    requires heads { AreHeads lists.now placed.now.order.items heads.old }
-    ensures free { result ≡ find (is_free_in lists.now placed.now.order.items)
-        (map point (range_with_len 0 points)) }
-    ensures count { length heads.new ≡ points }
-    ensures heads { AreHeads lists.now placed.now.order.items heads.new }
-{
-    for from in 0..points {
-        let targets = lists[from as usize].as_slice();
-        let head = &mut heads[from as usize];
-        if is_free_by_head(targets, placed, PointId(from), head) {
-            return Some(PointId(from));
-        }
-    }
-    None
-}
-
-/// Places the lowest free point, if there is one.
-fn place_next(
-    lists: &[Targets],
-    placed: &mut Marked,
-    points: u32,
-    heads: &mut [usize],
-) -> Result<(), AllocError>
-    requires lists { length lists.now ≡ points }
-    requires marks { length placed.old.marks.items ≡ points }
-    requires within { AreTargetsWithin lists.now points }
-    requires head_count { length heads.old ≡ points }
-    requires heads { AreHeads lists.now placed.old.order.items heads.old }
-    ensures placed { OnOk result (placed.new.order.items ≡ placed.old.order.items ++ option_to_list
-        (find (is_free_in lists.now placed.old.order.items)
-        (map point (range_with_len 0 points)))) }
-    ensures marks { OnOk result (length placed.new.marks.items ≡ points) }
-    ensures count { OnOk result (length heads.new ≡ points) }
-    ensures heads { OnOk result (AreHeads lists.now placed.new.order.items heads.new) }
-{
-    if let Some(point) = lowest_free(lists, placed, points, heads) {
-        placed.push(point)?;
-    }
-    Ok(())
 }
 
 /// The points that are placed, in their order.
-fn place_all(alloc: Global, lists: &[Targets], points: u32) -> Result<Marked, AllocError>
-    requires lists { length lists.now ≡ points }
-    requires within { AreTargetsWithin lists.now points }
-    ensures placed { IfOk result (λ placed. (graph : Graph) → graph.shape.points ≡ points
-        → AreNegativeSuccessors graph lists.now → placed.order.items ≡ placed_points graph) }
+fn place_all(alloc: Global, table: &Table, points: u32) -> Result<Marked, AllocError>
+    requires { points ≡ table.now.shape.points }
+    ensures placed { IfOk result (λ placed. placed.order.items ≡ placed_points table.now) }
     ensures marks { IfOk result (λ placed. length placed.marks.items ≡ points) }
 {
-    let mut placed = Marked::none(alloc, points)?;
-    let mut heads = vec![in alloc; 0usize; points as usize]?;
+    let mut placement = Placement::none(alloc, table, points)?;
     for _step in 0..points {
-        place_next(lists, &mut placed, points, heads.as_mut_slice())?;
+        placement.place_next(table)?;
     }
+    let Placement { placed, .. } = placement;
     Ok(placed)
 }
 

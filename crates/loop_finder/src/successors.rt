@@ -110,7 +110,7 @@ fn push_entry(lists: &mut [Targets], entry: &Entry, to: PointId) -> Result<(), A
 }
 
 /// Whether an entry is of an ordinary edge of negative weight.
-fn is_negative_entry(entry: &Entry) -> bool
+pub(crate) fn is_negative_entry(entry: &Entry) -> bool
     ensures { result ≡ is_negative_entry entry.now }
 {
     entry.is_ordinary() && entry.weight < 0

@@ -1,6 +1,6 @@
 -- A partial closure stays one if derivable edges lower it, and is the closure if whatever follows is saturated.
 use Rattle.std.proofs.Common.{◌≡◌, ℕ, ◌+◌, ◌<◌, ◌≤◌, ℤ, ◌<ℤ◌, ◌⊎◌, Bool, true, false, List, map, Option, Some, None, refl, ap, sym, subst, ◌∙◌, inl, inr, arith}
-use Rattle.std.specs.Prelude.{unsigned_abs, int_le}
+use Rattle.std.specs.Prelude.{unsigned_abs, int_le, IfSome}
 use Rattle.std.specs.Option.{option_map, option_map_or}
 use Rattle.std.specs.List.{Contains, enumerate_from}
 use Rattle.std.proofs.lemmas.Int.{ints}
@@ -17,10 +17,10 @@ use Rattle.net_model.specs.declared.part.Edge.{Edge}
 use Rattle.net_model.specs.declared.part.Link.{Link}
 use Rattle.net_model.proofs.NetworkLemmas.{greatest-le}
 use Rattle.closure_model.specs.Closure.{IsClosure, HoldsDerivable}
-use Rattle.closure_model.specs.Derivable.{IsDerivable}
-use Rattle.closure_model.specs.Keys.{key_of, shape_of, Shape, IsKey, IsLabelAt}
+use Rattle.closure_model.specs.Derivable.{IsDerivable, IsDerivableFor}
+use Rattle.closure_model.specs.Keys.{Key, edge_of, key_of, shape_of, Shape, IsKey, IsLabelAt}
 use Rattle.closure_model.specs.ReferenceRow.{IsBelow}
-use Rattle.closure_model.specs.Tables.{Graph, HasEdge, HasAtMost, IsFor, IsClosed, HasBase, base_edges, base_table, lowered, has_at_most}
+use Rattle.closure_model.specs.Tables.{Graph, HasEdge, HasAtMost, IsFor, IsClosed, HasBase, base_edges, base_table, lowered, has_at_most, weight_of}
 use Rattle.closure_model.proofs.BaseLemmas.{all_contained, numbered_contained, law_base_table_is_weakest}
 use Rattle.closure_model.proofs.LawProofs.{law_derivable_are_edges, law_derivable_are_bounded, law_closed_and_derivable_is_closure, law_reached_are_derivable}
 use Rattle.closure_model.proofs.Lists.{Contains-map}
@@ -53,6 +53,11 @@ module _ (net : Plan) (plan : IsPlan net) (edge : Edge) (derivable : IsDerivable
       labelled : (label : Option LinkId) → IsLabelled net edge label → IsLabelAt (shape_of net) edge.to label
       labelled None known = tt
       labelled (Some label) (link, declared, ends) = slice_get-map (λ (l : Link). l.from) net.links label.0 ∙ (ap (option_map (λ (l : Link). l.from)) declared ∙ ap Some (sym ends))
+
+-- what a table of derivable edges has for a key is derivable
+pub derivable_at : (net : Plan) (table : Graph) (key : Key) (weight : Option ℤ) → HoldsDerivable net table → weight ≡ weight_of table key → IfSome weight (IsDerivableFor net key)
+derivable_at net table key None holds is = tt
+derivable_at net table key (Some weight) holds is = holds (edge_of key weight) (sym is)
 
 -- ---- partial closures: the first one, after each step, and that the steps end
 pub base_is_partial_closure : (net : Plan) (table : Graph) → IsPlan net → table ≡ base_table net → IsFor net table → IsPartialClosure net table

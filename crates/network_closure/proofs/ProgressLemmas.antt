@@ -34,9 +34,9 @@ module _ (net : Plan) (old new : Graph) (edge : Edge) (improved : Bool) (relax :
   relax_raises_nothing = (relax_by (has_at_most old edge) refl).1
 
 -- ---- as contracts see it
-module _ (net : Plan) (old new : Graph) (before : Progress) (view : relaxing_of net old ≡ before) (edge : Edge) (improved : Bool) (relax : IsRelaxing net old new edge improved) where
+module _ (net : Plan) (old new : Graph) (before : Progress (Unit {0})) (view : relaxing_of net old ≡ before) (edge : Edge) (improved : Bool) (relax : IsRelaxing net old new edge improved) where
   pub goes_on : ProgressGoesOn before (relaxing_of net new)
-  goes_on = subst (λ (p : Progress). ProgressGoesOn p (relaxing_of net new)) view (record { net = refl; left = relax_raises_nothing net old new edge improved relax })
+  goes_on = subst (λ (p : Progress (Unit {0})). ProgressGoesOn p (relaxing_of net new)) view (record { net = refl; place = refl; left = relax_raises_nothing net old new edge improved relax })
 
   pub leaves_less : improved ≡ true → (relaxing_of net new).left < before.left
-  leaves_less is = subst (λ (p : Progress). (relaxing_of net new).left < p.left) view (relax_improves net old new edge improved relax is)
+  leaves_less is = subst (λ (p : Progress (Unit {0})). (relaxing_of net new).left < p.left) view (relax_improves net old new edge improved relax is)

@@ -1,6 +1,6 @@
 -- A partial closure: a table that is lowered by derivable edges until every edge that follows is saturated, which means that the table has
 -- its key at a weight that is no greater.
-use Rattle.std.specs.Prelude.{◌≡◌, ◌<◌, length, IfSome, MatchOption, List, Option, None, Some, false}
+use Rattle.std.specs.Prelude.{◌≡◌, IfSome, MatchOption, List, Option, None, Some, false}
 use Rattle.net_model.specs.Network.{Plan, IsPlan}
 use Rattle.net_model.specs.Rules.{no_case, upper_case, lower_case, cross_case, removal}
 use Rattle.net_model.specs.declared.ids.LinkId.{LinkId}
@@ -20,11 +20,6 @@ pub record IsPartialClosure (net : Plan) (table : Graph) : Type 0 where
   pub fits : IsFor net table
   pub base : HasBase net table
   pub derivable : HoldsDerivable net table
-
--- an edge is derivable, and begins in a point of the network
-pub record IsDerivedEdge (net : Plan) (edge : Edge) : Type 0 where
-  pub derivable : IsDerivable net edge
-  pub from_point : edge.from.0 < length net.points
 
 -- a table of a network whose edges are all derivable
 pub record IsOfDerivable (net : Plan) (table : Graph) : Type 0 where

@@ -4,7 +4,7 @@ ghost use Rattle.std.specs.Prelude.{◌≤◌, IfOk};
 ghost use Rattle.network_closure.specs.Saturation.{ClosesTo};
 
 use crate::dense_copies::{dense_of, lower_to_dense};
-use crate::depth_first::relax_depth_first;
+use crate::relaxation::relax_depth_first;
 use crate::sequence::Sequence;
 use crate::shared_test::unsaturated;
 use labelled_graph::Table;

@@ -8,6 +8,8 @@ mod dense;
 mod dense_copies;
 mod depth_first;
 pub mod laws;
+mod open_row;
+mod relaxable;
 mod relaxation;
 mod sequence;
 mod shared_test;
@@ -16,4 +18,6 @@ mod unsaturated_edges;
 
 pub use closure::{Closed, close};
 pub use consequences::{after, over_link, without_label};
+pub use depth_first::DepthFirst;
+pub use relaxable::Relaxable;
 pub use table_test::unsaturated_edge;

@@ -79,10 +79,10 @@ fn make_part<G: Gate>(
     Ok(WorkerPart { seat, rows })
 }
 
-impl<'a, R: Threads + Sync> Workers<'a, R> {
+impl<'a, R: Threads + Sync, G: Gate> Workers<'a, R, G> {
     /// The parts of all workers, one for each seat, which they make at once. That of the first seat
     /// stands at the end.
-    pub(crate) fn all_parts<G: Gate>(
+    pub(crate) fn all_parts(
         &self,
         board: &Board,
         seats: Vec<Seat>,

@@ -57,38 +57,48 @@ pub fn propagate<R: Threads + Sync, S: Supports, G: Gate>(
     requires stands { StandsOn net.now (S.support store.old) }
     ensures { IfOk result (IsPropagated net.now (S.support store.old) (S.support store.new)) }
 {
-    let points = net.points().len() as u32;
-    let by = Rounds {
-        workers: Workers::of(rt, alloc, workers),
-        net,
-        gate,
-    };
-    let mut rounds = 0;
-    let mut kept = None;
-    let mut last = None;
-    loop {
-        let order = match place(alloc, store.table(), points, kept)? {
-            Placed::InOrder(order) => order,
-            Placed::Cyclic(cycle) => return Ok(Outcome::Looped { rounds, cycle }),
-        };
-        rounds += 1;
-        match by.make_round(store, &order, &last)? {
-            None => return closed(alloc, store.table(), points, rounds),
-            Some(next) => {
-                kept = order_if(next.stays, order);
-                last = Some(next);
+    Workers::of(rt, alloc, workers, gate).propagate(net, store)
+}
+
+impl<'a, R: Threads + Sync, G: Gate> Workers<'a, R, G> {
+    /// Makes rounds until the table of a store is closed, or has a cycle, as the function
+    /// `propagate`.
+    pub fn propagate<S: Supports>(
+        &self,
+        net: &Network,
+        store: &mut S,
+    ) -> Result<Outcome, AllocError>
+        requires { StandsOn net.now (S.support store.old) }
+        ensures { IfOk result (IsPropagated net.now (S.support store.old) (S.support store.new)) }
+    {
+        let alloc = self.alloc();
+        let points = net.points().len() as u32;
+        let by = Rounds { workers: self, net };
+        let mut rounds = 0;
+        let mut kept = None;
+        let mut last = None;
+        loop {
+            let order = match place(alloc, store.table(), points, kept)? {
+                Placed::InOrder(order) => order,
+                Placed::Cyclic(cycle) => return Ok(Outcome::Looped { rounds, cycle }),
+            };
+            rounds += 1;
+            match by.make_round(store, &order, &last)? {
+                None => return closed(alloc, store.table(), points, rounds),
+                Some(next) => {
+                    kept = order_if(next.stays, order);
+                    last = Some(next);
+                }
             }
         }
     }
 }
 
-/// What rounds are made with: the workers, the network for which they make rows, and the gate
-/// before each row.
+/// What rounds are made with: the workers, and the network for which they make rows.
 #[derive(Drop)]
 pub(crate) struct Rounds<'a, R, G> {
-    workers: Workers<'a, R>,
+    workers: &'a Workers<'a, R, G>,
     net: &'a Network,
-    gate: &'a G,
 }
 
 impl<'a, R: Threads + Sync, G: Gate> Rounds<'a, R, G> {
@@ -155,14 +165,14 @@ impl<'a, R: Threads + Sync, G: Gate> Rounds<'a, R, G> {
         requires within { HasWeightsWithin self.now.net.now table.now }
         ensures { IfOk result (λ rows. AreRowsOfRound self.now.net.now table.now rows.items) }
     {
-        let workers = &self.workers;
+        let workers = self.workers;
         round(
             workers.rt(),
             workers.alloc(),
             table,
             self.net,
             workers.count(),
-            self.gate,
+            workers.gate(),
         )
     }
 
@@ -185,7 +195,7 @@ impl<'a, R: Threads + Sync, G: Gate> Rounds<'a, R, G> {
             targets: targets.as_slice(),
             table,
             net: self.net,
-            gate: self.gate,
+            gate: self.workers.gate(),
             informed: true,
             delta: last.delta.as_slice(),
         };

@@ -76,7 +76,7 @@ pub fn round_of<R: Threads + Sync, G: Gate>(
         informed: false,
         delta: nothing.as_slice(),
     };
-    Workers::of(rt, alloc, workers).rows_of(&task)
+    Workers::of(rt, alloc, workers, gate).rows_of(&task)
 }
 
 /// All points of a network, in order.
@@ -88,9 +88,9 @@ fn all_targets(alloc: Global, net: &Network) -> Result<Vec<PointId>, AllocError>
         .collect(alloc)
 }
 
-impl<'a, R: Threads + Sync> Workers<'a, R> {
+impl<'a, R: Threads + Sync, G: Gate> Workers<'a, R, G> {
     /// The rows of the targets of a task, in their order.
-    pub(crate) fn rows_of<G: Gate>(&self, task: &RoundTask<G>) -> Result<Vec<NewRow>, AllocError>
+    pub(crate) fn rows_of(&self, task: &RoundTask<G>) -> Result<Vec<NewRow>, AllocError>
         requires fits { IsFor task.now.net.now task.now.table.now }
         requires within { HasWeightsWithin task.now.net.now task.now.table.now }
         requires points { All (IsPoint task.now.net.now) task.now.targets.now }
@@ -109,7 +109,7 @@ impl<'a, R: Threads + Sync> Workers<'a, R> {
     }
 
     /// The rows of all targets in any order, with the first seat, into which all others are joined.
-    fn make_rows<G: Gate>(
+    fn make_rows(
         &self,
         board: &Board,
         first: Seat,

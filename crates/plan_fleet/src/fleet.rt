@@ -17,7 +17,7 @@ use crate::fleet_start::{decide_all, gather, jobs_of};
 use crate::states::{FleetFed, FleetFinished, State};
 use execution_model::Act;
 use net_model::{Name, Network, PointId};
-use parallel_rounds::Gate;
+use parallel_rounds::{Gate, Workers};
 use std::alloc::{AllocError, Global};
 use std::marker::Model;
 use std::thread::Threads;
@@ -55,7 +55,7 @@ impl Fleet {
         ensures { IfOk result (AreOpened (nets_given plans.items)) }
     {
         let jobs = jobs_of(alloc, plans)?;
-        let decided = decide_all(rt, alloc, jobs, gate)?;
+        let decided = decide_all(&Workers::of(rt, alloc, 1, gate), jobs)?;
         let members = gather(alloc, decided)?;
         Ok(Fleet { members })
     }

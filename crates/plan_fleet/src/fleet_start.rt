@@ -16,7 +16,7 @@ use dispatch_net::laws::law_slim_stays_slim;
 use forward_closure::ForwardClosed;
 use forward_executor::ForwardExecutor;
 use net_model::{Name, Network};
-use parallel_rounds::Gate;
+use parallel_rounds::{Gate, Workers};
 use std::alloc::{AllocError, Global};
 use std::thread::{Threads, map_vec};
 use strategy_model::laws::shown::{law_controllable_is_shown, law_shown_form_is_instant};
@@ -54,39 +54,35 @@ pub(crate) fn jobs_of(alloc: Global, plans: Vec<(Name, Network)>) -> Result<Vec<
     Ok(jobs)
 }
 
-/// Decides plans, in their own threads if these can be started, each by one worker. `AllocError`
-/// comes only if memory is refused, for all or for one of them.
+/// Decides plans, in their own threads if these can be started, each by so many workers as these
+/// are. `AllocError` comes only if memory is refused, for all or for one of them.
 pub(crate) fn decide_all<R: Threads + Sync, G: Gate>(
-    rt: &R,
-    alloc: Global,
+    workers: &Workers<'_, R, G>,
     jobs: Vec<Job>,
-    gate: &G,
 ) -> Result<Vec<Result<Decided, AllocError>>, AllocError>
     ensures len { IfOk result (λ decided. length decided.items ≡ length jobs.items) }
     ensures each { IfOk result (λ decided. DecidesEach jobs.items decided.items) }
 {
     map_vec(
-        rt,
+        workers.rt(),
         jobs,
         &|job| -> Result<Decided, AllocError>
             ensures { IfOk result (DecidesTo job.net) }
-        { decide(rt, alloc, job, gate) },
+        { decide(workers, job) },
     )
 }
 
-/// Decides a plan by one worker, by its shown form.
+/// Decides a plan by its shown form.
 fn decide<R: Threads + Sync, G: Gate>(
-    rt: &R,
-    alloc: Global,
+    workers: &Workers<'_, R, G>,
     job: Job,
-    gate: &G,
 ) -> Result<Decided, AllocError>
     ensures { IfOk result (DecidesTo job.net) }
 {
-    gate.before(job.place);
+    workers.gate().before(job.place);
     let Job { net, .. } = job;
-    let shown = net.shown(alloc)?;
-    let closed = forward_table_if_controllable(rt, alloc, &shown, 1)?;
+    let shown = net.shown(workers.alloc())?;
+    let closed = forward_table_if_controllable(workers, &shown)?;
     Ok(Decided { net, shown, closed })
 }
 

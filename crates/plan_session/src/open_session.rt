@@ -1,10 +1,9 @@
 //! A session that is not broken.
 
-ghost use Rattle.std.specs.Prelude.{◌≡◌, ◌≤◌, true, false, IfOk};
+ghost use Rattle.std.specs.Prelude.{◌≡◌, true, false, IfOk};
 ghost use Rattle.net_model.specs.ShownForm.{shown_form};
 ghost use Rattle.strategy_model.specs.Control.{IsControllable};
 ghost use Rattle.closure_certificates.specs.Certified.{Certifies};
-ghost use Rattle.work_board.specs.Limits.{most_seats};
 ghost use Rattle.plan_session.specs.Sessions.{IsOpenedOn};
 ghost use Rattle.plan_session.specs.Kept.{IsDispatchIfControllable};
 ghost use Rattle.plan_session.specs.OpenSessions.{FollowsOrRefuses};
@@ -15,7 +14,7 @@ use crate::session_network::SessionNetwork;
 use cert_format::Certificate;
 use dispatch_net::Dispatch;
 use net_model::{Edit, EditFault, Network};
-use parallel_rounds::Gate;
+use parallel_rounds::{Gate, Workers};
 use std::alloc::{AllocError, Global};
 use std::marker::Model;
 use std::thread::Threads;
@@ -55,21 +54,17 @@ pub enum Edited {
 }
 
 impl OpenSession {
-    /// Opens a session of a network, as `Session::open`. `AllocError` comes only for want of
-    /// memory.
+    /// Opens a session of a network by workers, as `Session::open`. `AllocError` comes only for
+    /// want of memory.
     pub fn open<R: Threads + Sync, G: Gate>(
-        rt: &R,
-        alloc: Global,
+        workers: &Workers<'_, R, G>,
         net: Network,
-        workers: u32,
-        gate: &G,
     ) -> Result<OpenSession, AllocError>
-        requires { (1 ≤ workers) × (workers ≤ most_seats) }
         ensures opened { IfOk result (λ session. IsOpenedOn net session.state) }
-        ensures workers { IfOk result (λ session. session.workers ≡ workers) }
+        ensures workers { IfOk result (λ session. session.workers ≡ workers.now) }
     {
-        let network = SessionNetwork::of(alloc, net, workers)?;
-        let propagated = Propagated::of(rt, alloc, &network, gate)?;
+        let network = SessionNetwork::of(workers.alloc(), net, workers.count())?;
+        let propagated = Propagated::of(workers, &network)?;
         Ok(OpenSession {
             network,
             propagated,
@@ -93,9 +88,8 @@ impl OpenSession {
                     network,
                     propagated,
                 } = self;
-                let (propagated, report) = propagated.follow(
-                    rt, alloc, &network, edit, &edited, gate,
-                )?;
+                let workers = edited.workers(rt, alloc, gate);
+                let (propagated, report) = propagated.follow(&workers, &network, edit, &edited)?;
                 let session = OpenSession {
                     network: edited,
                     propagated,

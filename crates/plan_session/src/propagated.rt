@@ -20,7 +20,7 @@ use dispatch_net::laws::law_closures_may_dispatch;
 use edit_laws::laws::{law_edits_withdraw_nodes, law_shown_forms_follow_edits};
 use net_model::Edit;
 use network_refutation::{certify, prove};
-use parallel_rounds::{Gate, NoGate, Outcome, propagate};
+use parallel_rounds::{Gate, NoGate, Outcome, Workers};
 use refutation_certificates::refutation;
 use shared_table_laws::laws::law_later_nodes_improve;
 use std::alloc::{AllocError, Global};
@@ -40,17 +40,15 @@ pub(crate) struct Propagated {
 impl Propagated {
     /// Makes rounds from the base.
     pub(crate) fn of<R: Threads + Sync, G: Gate>(
-        rt: &R,
-        alloc: Global,
+        workers: &Workers<'_, R, G>,
         network: &SessionNetwork,
-        gate: &G,
     ) -> Result<Propagated, AllocError>
         ensures opened { IfOk result (λ made. Opens (shown_form network.now.net) (opened_of made)) }
         ensures kept { IfOk result (IsKept network.now.net) }
     {
         let shown = network.shown();
-        let mut store = Store::of(alloc, shown)?;
-        let outcome = propagate(rt, alloc, shown, &mut store, network.workers(), gate)?;
+        let mut store = Store::of(workers.alloc(), shown)?;
+        let outcome = workers.propagate(shown, &mut store)?;
         Ok(Propagated {
             store,
             outcome,
@@ -61,12 +59,10 @@ impl Propagated {
     /// Follows an edit of the network, and makes rounds from there.
     pub(crate) fn follow<R: Threads + Sync, G: Gate>(
         self,
-        rt: &R,
-        alloc: Global,
+        workers: &Workers<'_, R, G>,
         old: &SessionNetwork,
         edit: &Edit,
         new: &SessionNetwork,
-        gate: &G,
     ) -> Result<(Propagated, Report), AllocError>
         requires kept { IsKept old.now.net self }
         requires makes { Makes old.now.net edit.now new.now.net }
@@ -81,8 +77,8 @@ impl Propagated {
         old.sound();
         let shown = new.shown();
         let Propagated { mut store, .. } = self;
-        let withdrawn = store.follow(alloc, old.shown(), edit, shown)?;
-        let outcome = propagate(rt, alloc, shown, &mut store, new.workers(), gate)?;
+        let withdrawn = store.follow(workers.alloc(), old.shown(), edit, shown)?;
+        let outcome = workers.propagate(shown, &mut store)?;
         let report = Report {
             kept: withdrawn.kept,
             withdrawn: withdrawn.withdrawn,
@@ -138,7 +134,7 @@ impl Propagated {
                     cycle.as_slice(),
                 )
             }
-            Outcome::Looped { .. } => certify(rt, alloc, shown, network.workers(), &NoGate),
+            Outcome::Looped { .. } => certify(&network.workers(rt, alloc, &NoGate), shown),
         }
     }
 

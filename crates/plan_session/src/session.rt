@@ -75,7 +75,7 @@ impl Session {
         ensures workers { IfOk result (λ session. session.workers ≡ workers) }
     {
         let network = SessionNetwork::of(alloc, net, workers)?;
-        let propagated = Propagated::of(rt, alloc, &network, gate)?;
+        let propagated = Propagated::of(&network.workers(rt, alloc, gate), &network)?;
         Ok(Session {
             network,
             propagated: Some(propagated),
@@ -104,13 +104,12 @@ impl Session {
         };
         match self.network.edited(alloc, edit) {
             Ok(network) => {
+                let workers = network.workers(rt, alloc, gate);
                 let (propagated, report) = propagated.follow(
-                    rt,
-                    alloc,
+                    &workers,
                     &self.network,
                     edit,
                     &network,
-                    gate,
                 )?;
                 self.network = network;
                 self.propagated = Some(propagated);
@@ -138,7 +137,8 @@ impl Session {
         ensures workers { self.new.workers ≡ self.old.workers }
     {
         self.propagated = None;
-        let propagated = Propagated::of(rt, alloc, &self.network, gate)?;
+        let workers = self.network.workers(rt, alloc, gate);
+        let propagated = Propagated::of(&workers, &self.network)?;
         self.propagated = Some(propagated);
         Ok(())
     }

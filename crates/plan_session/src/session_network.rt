@@ -7,6 +7,7 @@ ghost use Rattle.work_board.specs.Limits.{most_seats};
 ghost use Rattle.plan_session.specs.SessionNetworks.{EditsNetwork};
 
 use net_model::{Edit, EditFault, Network};
+use parallel_rounds::Workers;
 use std::alloc::{AllocError, Global};
 use std::marker::Model;
 
@@ -79,12 +80,17 @@ impl SessionNetwork {
         &self.shown
     }
 
-    /// How many workers make rounds: 1 to 64.
-    pub(crate) fn workers(&self) -> u32
-        ensures number { result ≡ self.now.workers }
-        ensures within { (1 ≤ result) × (result ≤ most_seats) }
+    /// Those who make rounds, in these threads and with this memory, and with the gate before each
+    /// row.
+    pub(crate) fn workers<'a, R, G>(
+        &self,
+        rt: &'a R,
+        alloc: Global,
+        gate: &'a G,
+    ) -> Workers<'a, R, G>
+        ensures { result ≡ self.now.workers }
     {
-        self.workers
+        Workers::of(rt, alloc, self.workers, gate)
     }
 
     /// The network is sound. This does nothing: a body calls it if its proof needs the law.

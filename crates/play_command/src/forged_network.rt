@@ -104,7 +104,7 @@ impl NoInput for Forge {
     ) -> Result<NoInputEnd, AllocError> {
         let net = forge(alloc, self.words.number, self.words.tasks)?;
         push_counts(answer, &net)?;
-        let session = self.workers.open(rt, alloc, net)?;
+        let session = OpenSession::open(&self.workers.workers(rt, alloc), net)?;
         print_verdict(rt, alloc, answer, &session)
     }
 }

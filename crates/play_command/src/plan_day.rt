@@ -1,6 +1,6 @@
 //! The command `play`: a plan, and then a day of it, as it is played in one situation.
 
-ghost use Rattle.std.specs.Prelude.{◌≡◌, ◌++◌, [], IfOk, OnOk};
+ghost use Rattle.std.specs.Prelude.{◌≡◌, ◌++◌, IfOk, OnOk};
 ghost use Rattle.std.specs.List.{flat_map};
 ghost use Rattle.net_model.specs.Network.{IsPoint};
 ghost use Rattle.net_model.specs.NetworkParts.{point_name};
@@ -35,7 +35,7 @@ use std::thread::Threads;
 use strategy_model::laws::law_at_most_one_earliest;
 use strategy_model::laws::shown::law_earliest_is_shown;
 use strategy_model::{Schedule, Situation};
-use verdicts::{Verdict, dispatch_by};
+use verdicts::{Verdict, decide, dispatch_by};
 
 /// A day of a plan: the command `play` reads a plan, and puts `controllable` if a strategy controls
 /// its network, and then for each point in order a line with its moment in the earliest schedule of
@@ -126,8 +126,8 @@ impl OneAnswer for Play {
     }
 }
 
-/// Puts the verdict of a network into the buffer, which is empty, and if it is controllable the
-/// requested day.
+/// Puts the verdict of a network, and if it is controllable the requested day, in place of what
+/// stood in the buffer.
 fn put_day<R: Threads + Sync>(
     rt: &R,
     alloc: Global,
@@ -135,10 +135,9 @@ fn put_day<R: Threads + Sync>(
     net: Network,
     play: &Play,
 ) -> Result<End, AllocError>
-    requires { answer.old.text ≡ [] }
     ensures { IfOk result (play_answers play.now net answer.new.text) }
 {
-    match play.workers.decide(rt, alloc, net)? {
+    match decide(&play.workers.workers(rt, alloc), net)? {
         Verdict::Controllable {
             stated,
             shown,
@@ -148,8 +147,8 @@ fn put_day<R: Threads + Sync>(
     }
 }
 
-/// Puts that a network is controllable into the buffer, which is empty, and the moments of its
-/// points in a situation, by a forward closed table of its shown form.
+/// Puts that a network is controllable, and the moments of its points in a situation, in place of
+/// what stood in the buffer, by a forward closed table of its shown form.
 fn put_times(
     alloc: Global,
     answer: &mut Answer,
@@ -158,7 +157,6 @@ fn put_times(
     closed: &ForwardClosed,
     which: WhichSituation,
 ) -> Result<End, AllocError>
-    requires empty { answer.old.text ≡ [] }
     requires verdict { IsControllableBy IsOrderedForwardTable net.now shown.now closed.now }
     ensures { IfOk result (PutsTimes which net.now answer.new.text) }
 {
@@ -167,6 +165,7 @@ fn put_times(
     let dispatch = dispatch_by(alloc, shown, closed)?;
     let situation = situation_as_shown(alloc, net, which)?;
     let schedule = played(alloc, shown, dispatch, &situation)?;
+    answer.clear();
     answer.push_line(&[Word::Text("controllable")])?;
     push_times(answer, net, schedule.as_slice())?;
     Ok(End::Done)

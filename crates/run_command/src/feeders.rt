@@ -1,6 +1,6 @@
 //! The feeders of an execution, as words say them.
 
-ghost use Rattle.std.specs.Prelude.{◌≡◌, [], option_map, IfOk};
+ghost use Rattle.std.specs.Prelude.{◌≡◌, option_map, IfOk};
 ghost use Rattle.command_engine.specs.Machine.{HasCapacity};
 ghost use Rattle.forward_executor.specs.ForwardExecutions.{IsForwardDispatch};
 ghost use Rattle.event_phase.specs.ExecutionStart.{BeginsExecutionBy};
@@ -55,8 +55,8 @@ impl Feeders {
     }
 
     /// Begins the execution of a controllable network without a delay, and puts that the network is
-    /// controllable, and the first due moment. If there are feeders, their desk is made first.
-    /// `AllocError` comes only for want of memory.
+    /// controllable, and the first due moment, in place of what stood in the buffer. If there are
+    /// feeders, their desk is made first. `AllocError` comes only for want of memory.
     pub(crate) fn begin(
         &self,
         alloc: Global,
@@ -64,7 +64,6 @@ impl Feeders {
         net: Network,
         dispatch: Dispatch,
     ) -> Result<Flow<Executing>, AllocError>
-        requires empty { answer.old.text ≡ [] }
         requires dispatch { IsForwardDispatch net dispatch }
         ensures begins { IfOk result (BeginsExecutionBy self.now net answer.new.text) }
         ensures spare_capacity { IfOk result

@@ -1,6 +1,6 @@
 //! The command `run`: a plan, and then the execution of its network over lines of events.
 
-ghost use Rattle.std.specs.Prelude.{◌≡◌, [], IfOk};
+ghost use Rattle.std.specs.Prelude.{IfOk};
 ghost use Rattle.command_engine.specs.Machine.{HasCapacity};
 ghost use Rattle.event_phase.specs.EventPhase.{executing_machine};
 ghost use Rattle.command_contracts.specs.Programs.{or_nothing};
@@ -23,7 +23,7 @@ use net_model::Network;
 use std::alloc::{AllocError, Global};
 use std::marker::Model;
 use std::thread::Threads;
-use verdicts::{Verdict, dispatch_by};
+use verdicts::{Verdict, decide, dispatch_by};
 
 /// The execution of a network: the command `run` reads a plan, and puts `controllable` and the
 /// first due moment if a strategy controls its network, else `not controllable` and a certificate
@@ -63,7 +63,7 @@ impl Begin<PlanNetwork> for Run {
         answer: &mut Answer,
         value: PlanNetwork,
     ) -> Result<Flow<Executing>, AllocError> {
-        match self.workers.decide(rt, alloc, value.into_network())? {
+        match decide(&self.workers.workers(rt, alloc), value.into_network())? {
             Verdict::Controllable { shown, closed, .. } => {
                 begin_execution(alloc, answer, shown, &closed, &self.feeders)
             }
@@ -138,7 +138,8 @@ impl OneRun for Run {
 }
 
 /// Begins the execution of a network without a delay, which is controllable, by a forward closed
-/// table of it, and puts that it is controllable, and the first due moment.
+/// table of it, and puts that it is controllable, and the first due moment, in place of what stood
+/// in the buffer.
 fn begin_execution(
     alloc: Global,
     answer: &mut Answer,
@@ -146,7 +147,6 @@ fn begin_execution(
     closed: &ForwardClosed,
     feeders: &Feeders,
 ) -> Result<Flow<Executing>, AllocError>
-    requires empty { answer.old.text ≡ [] }
     requires closure { IsOrderedForwardTable net closed.now }
     ensures begins { IfOk result (BeginsExecutionBy feeders.now net answer.new.text) }
     ensures spare_capacity { IfOk result

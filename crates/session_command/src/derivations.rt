@@ -2,11 +2,11 @@
 //! report.
 
 ghost use Rattle.std.specs.Prelude.{◌≡◌, [], ◌∷◌, ◌++◌, IfOk};
+ghost use Rattle.session_command.specs.EditHistory.{first_of, followed_by};
 ghost use Rattle.session_command.specs.Followed.{AreAccepted, IsReport};
 
-use command_contracts::WorkerCount;
 use net_model::{Edit, Network};
-use parallel_rounds::NoGate;
+use parallel_rounds::{NoGate, Workers};
 use plan_session::{Edited, OpenSession, Report};
 use std::alloc::{AllocError, Global};
 use std::marker::Model;
@@ -20,6 +20,23 @@ pub(crate) enum Derived {
     Nothing(Network),
     /// A session was opened on it, and has followed edits.
     Followed(Derivations),
+}
+
+impl Derived {
+    /// The derivations, of a session that is opened on the network if none was. `AllocError` comes
+    /// only for want of memory.
+    pub(crate) fn opened<R: Threads + Sync>(
+        self,
+        workers: &Workers<'_, R, NoGate>,
+    ) -> Result<Derivations, AllocError>
+        ensures first { IfOk result (λ derivations. derivations.first ≡ first_of self) }
+        ensures edits { IfOk result (λ derivations. derivations.edits ≡ followed_by self) }
+    {
+        match self {
+            Derived::Nothing(net) => Derivations::open(workers, net),
+            Derived::Followed(derivations) => Ok(derivations),
+        }
+    }
 }
 
 /// A session that keeps derivations, opened on a network, and the report of the last edit that it
@@ -52,22 +69,20 @@ impl Model for Derivations {
 
 impl Derivations {
     /// Those of a network before any edit. `AllocError` comes only for want of memory.
-    pub(crate) fn open<R: Threads + Sync>(
-        rt: &R,
-        alloc: Global,
+    fn open<R: Threads + Sync>(
+        workers: &Workers<'_, R, NoGate>,
         net: Network,
-        workers: &WorkerCount,
     ) -> Result<Derivations, AllocError>
         ensures first { IfOk result (λ derivations. derivations.first ≡ net) }
         ensures edits { IfOk result (λ derivations. derivations.edits ≡ []) }
     {
         let first = Snapshot::of(&net);
-        let session = workers.open(rt, alloc, net)?;
+        let session = OpenSession::open(workers, net)?;
         Ok(Derivations {
             session,
             report: None,
             first,
-            followed: Vec::new(alloc),
+            followed: Vec::new(workers.alloc()),
         })
     }
 

@@ -6,8 +6,8 @@ ghost use Rattle.session_command.specs.EditHistory.{AreKeptAccepted};
 ghost use Rattle.session_command.specs.Followed.{AreAccepted, IsReport};
 
 use crate::derivations::{Derivations, Derived};
-use command_contracts::WorkerCount;
 use net_model::{Edit, Network};
+use parallel_rounds::{NoGate, Workers};
 use plan_session::Report;
 use std::alloc::{AllocError, Global};
 use std::marker::Model;
@@ -48,21 +48,18 @@ impl History {
           edits = edit.now ∷ [];
         }) }
     {
-        let mut noted = Vec::new(alloc);
-        noted.push(*edit)?;
-        Ok(History {
+        let history = History {
             derived: Derived::Nothing(first),
-            noted,
-        })
+            noted: Vec::new(alloc),
+        };
+        history.with_edit(edit)
     }
 
     /// Notes one more accepted edit; if so many are noted already, derivations follow those first.
     /// `AllocError` comes only for want of memory.
     pub(crate) fn note<R: Threads + Sync>(
         self,
-        rt: &R,
-        alloc: Global,
-        workers: &WorkerCount,
+        workers: &Workers<'_, R, NoGate>,
         edit: &Edit,
     ) -> Result<History, AllocError>
         requires accepted { AreAccepted self.first self.edits }
@@ -74,8 +71,8 @@ impl History {
         if self.noted.len() < MOST_NOTED {
             self.with_edit(edit)
         } else {
-            let derivations = self.derive(rt, alloc, workers)?;
-            History::after(alloc, derivations).with_edit(edit)
+            let derivations = self.derive(workers)?;
+            History::after(workers.alloc(), derivations).with_edit(edit)
         }
     }
 
@@ -83,38 +80,31 @@ impl History {
     /// `AllocError` comes only for want of memory.
     pub(crate) fn report<R: Threads + Sync>(
         self,
-        rt: &R,
-        alloc: Global,
-        workers: &WorkerCount,
+        workers: &Workers<'_, R, NoGate>,
     ) -> Result<(History, Option<Report>), AllocError>
         requires accepted { AreAccepted self.first self.edits }
         ensures same { IfOk result (λ answer. answer.0 ≡ self) }
         ensures report { IfOk result (λ answer. IsReport self.first self.edits answer.1) }
     {
-        let derivations = self.derive(rt, alloc, workers)?;
+        let derivations = self.derive(workers)?;
         let report = derivations.report();
-        Ok((History::after(alloc, derivations), report))
+        Ok((History::after(workers.alloc(), derivations), report))
     }
 
     /// Derivations that have followed each edit.
     fn derive<R: Threads + Sync>(
         self,
-        rt: &R,
-        alloc: Global,
-        workers: &WorkerCount,
+        workers: &Workers<'_, R, NoGate>,
     ) -> Result<Derivations, AllocError>
         requires accepted { AreAccepted self.first self.edits }
         ensures first { IfOk result (λ derivations. derivations.first ≡ self.first) }
         ensures edits { IfOk result (λ derivations. derivations.edits ≡ self.edits) }
     {
+        let rt = workers.rt();
+        let alloc = workers.alloc();
         let History { derived, noted } = self;
-        match derived {
-            Derived::Nothing(net) => {
-                let derivations = Derivations::open(rt, alloc, net, workers)?;
-                derivations.follow_all(rt, alloc, noted.as_slice())
-            }
-            Derived::Followed(derivations) => derivations.follow_all(rt, alloc, noted.as_slice()),
-        }
+        let derivations = derived.opened(workers)?;
+        derivations.follow_all(rt, alloc, noted.as_slice())
     }
 
     /// The history that derivations have followed.
@@ -142,11 +132,9 @@ impl History {
 /// What is kept of accepted edits after one more, which was accepted of this network: if nothing was
 /// kept before, the network is as it was first. `AllocError` comes only for want of memory.
 pub(crate) fn with_accepted<R: Threads + Sync>(
-    rt: &R,
-    alloc: Global,
+    workers: &Workers<'_, R, NoGate>,
     net: Network,
     history: Option<History>,
-    workers: &WorkerCount,
     edit: &Edit,
 ) -> Result<History, AllocError>
     requires accepted { AreKeptAccepted history }
@@ -156,7 +144,7 @@ pub(crate) fn with_accepted<R: Threads + Sync>(
     }) }
 {
     match history {
-        None => History::of(alloc, net, edit),
-        Some(history) => history.note(rt, alloc, workers, edit),
+        None => History::of(workers.alloc(), net, edit),
+        Some(history) => history.note(workers, edit),
     }
 }

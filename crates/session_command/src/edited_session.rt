@@ -81,8 +81,8 @@ impl Editing {
     {
         match self.net.apply(alloc, edit) {
             Ok(net) => {
-                answer.push_line(&[Word::Text("ok")])?;
-                self.accept(rt, alloc, edit, net)
+                self.accept(rt, alloc, edit, net)?;
+                answer.push_line(&[Word::Text("ok")])
             }
             Err(EditFault::OutOfMemory) => Err(AllocError),
             Err(cause) => push_refused(answer, &self.net, cause),
@@ -107,7 +107,8 @@ impl Editing {
         let history = self.history.take();
         let before = mem::replace(&mut self.net, net);
         self.verdict = None;
-        let history = with_accepted(rt, alloc, before, history, &self.workers, edit)?;
+        let workers = self.workers.workers(rt, alloc);
+        let history = with_accepted(&workers, before, history, edit)?;
         self.history = Some(history);
         Ok(())
     }
@@ -140,7 +141,7 @@ impl Editing {
         let Some(history) = self.history.take() else {
             return Ok(None);
         };
-        let (history, report) = history.report(rt, alloc, &self.workers)?;
+        let (history, report) = history.report(&self.workers.workers(rt, alloc))?;
         self.history = Some(history);
         Ok(report)
     }
@@ -181,7 +182,7 @@ impl Editing {
     {
         match self.verdict {
             Some(false) => Ok(None),
-            _ => dispatch_if_controllable(rt, alloc, &self.net, self.workers.number()),
+            _ => dispatch_if_controllable(&self.workers.workers(rt, alloc), &self.net),
         }
     }
 
@@ -197,7 +198,7 @@ impl Editing {
         if let Some(yes) = self.verdict {
             return Ok(yes);
         }
-        let yes = is_controllable(rt, alloc, &self.net, self.workers.number())?;
+        let yes = is_controllable(&self.workers.workers(rt, alloc), &self.net)?;
         self.verdict = Some(yes);
         Ok(yes)
     }
@@ -215,7 +216,8 @@ impl Editing {
         ensures says { OnOk result (SaysProof (net_of self.old) answer.new.text) }
     {
         let yes = self.is_controllable(rt, alloc)?;
-        let certificate = certificate(rt, alloc, &self.net, yes, self.workers.number())?;
+        let workers = self.workers.workers(rt, alloc);
+        let certificate = certificate(&workers, &self.net, yes)?;
         let text = print_certificate(alloc, &certificate)?;
         answer.push_text(text.as_slice())
     }
@@ -248,7 +250,7 @@ impl Editing {
         ensures dispatched { IfOk result (IsDispatchedByClosure (net_of self.old)) }
     {
         if self.is_controllable(rt, alloc)? {
-            dispatch_of_closure(rt, alloc, &self.net, self.workers.number())
+            dispatch_of_closure(&self.workers.workers(rt, alloc), &self.net)
         } else {
             Ok(None)
         }

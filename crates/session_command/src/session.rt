@@ -7,7 +7,7 @@ ghost use Rattle.command_engine.specs.Machine.{HasCapacity};
 ghost use Rattle.command_engine.specs.Phases.{wrapped};
 ghost use Rattle.session_command.specs.SessionPromise.{session_promise};
 ghost use Rattle.session_command.specs.Sessions.{session_begins, session_machine, session_start};
-ghost use Rattle.session_command.specs.Sessions.{edits_on, AnswersStep};
+ghost use Rattle.session_command.specs.Sessions.{edits_on, AnswersStep, TakesStep};
 ghost use Rattle.edit_script.specs.declared.step.Step.TheVariants as step;
 
 use crate::edited_session::Editing;
@@ -75,10 +75,10 @@ impl Begin<PlanNetwork> for SessionCommand {
         answer: &mut Answer,
         value: PlanNetwork,
     ) -> Result<Flow<InSession>, AllocError> {
+        answer.push_line(&[Word::Text("ready")])?;
         let SessionCommand { query } = self;
         let FormAndWorkers { workers, .. } = query;
         let editing = Editing::of(value.into_network(), workers);
-        answer.push_line(&[Word::Text("ready")])?;
         Ok(Flow::Continue(InSession::Editing(editing)))
     }
 }
@@ -102,21 +102,13 @@ impl Command for InSession {
             InSession::Executing(state) => Ok(executing(state.take_line(
                 rt, alloc, answer, number, line,
             )?)),
-            InSession::Editing(state) => match read_step(line) {
-                Ok(step) => {
-                    let mut state = state;
-                    match answer_step(rt, alloc, answer, &mut state, step)? {
-                        Some(flow) => Ok(flow),
-                        None => Ok(Flow::Continue(InSession::Editing(state))),
-                    }
+            InSession::Editing(state) => {
+                let mut state = state;
+                match answer_line(rt, alloc, answer, &mut state, number, line)? {
+                    Some(flow) => Ok(flow),
+                    None => Ok(Flow::Continue(InSession::Editing(state))),
                 }
-                Err(WordFault::Kind(kind)) => {
-                    let fault = Fault::Format(number, kind);
-                    fault.put(answer);
-                    Ok(Flow::Finish(fault.end()))
-                }
-                Err(WordFault::OutOfMemory) => Err(AllocError),
-            },
+            }
         }
     }
 
@@ -171,6 +163,32 @@ impl OneRun for SessionCommand {
         law_edits_are_followed_in_one_way();
         one_step();
         law_lines_have_one_reading();
+    }
+}
+
+/// Answers a line while the network is edited. There is no flow if it is edited further.
+fn answer_line<R: Threads + Sync>(
+    rt: &R,
+    alloc: Global,
+    answer: &mut Answer,
+    state: &mut Editing,
+    number: u32,
+    line: &[u8],
+) -> Result<Option<Flow<InSession>>, AllocError>
+    requires { answer.old.text ≡ [] }
+    ensures answers { IfOk result (λ flow. TakesStep state.old number line.now answer.new.text
+        (unwrap_or flow (edits_on state.new))) }
+    ensures spare_capacity { IfOk result (λ flow. HasCapacity session_machine
+        (unwrap_or flow (edits_on state.new)) answer.new.capacity) }
+{
+    match read_step(line) {
+        Ok(step) => answer_step(rt, alloc, answer, state, step),
+        Err(WordFault::Kind(kind)) => {
+            let fault = Fault::Format(number, kind);
+            fault.put(answer);
+            Ok(Some(Flow::Finish(fault.end())))
+        }
+        Err(WordFault::OutOfMemory) => Err(AllocError),
     }
 }
 

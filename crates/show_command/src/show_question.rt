@@ -89,22 +89,21 @@ impl OneAnswer for Show {
     fn answers_once() {}
 }
 
-/// Puts the plan text of a network into the buffer, which is empty.
+/// Puts the plan text of a network in place of what stood in the buffer.
 #[tactic(auto, using(crate::proofs::ShowLemmas::text_put))]
 fn put_text(alloc: Global, answer: &mut Answer, net: &Network) -> Result<End, AllocError>
-    requires empty { answer.old.text ≡ [] }
     requires numbers { HasPlanNumbers net.now }
     ensures { IfOk result (λ end. PutsPlan Notation.Text net.now answer.new.text end) }
 {
     net.sound();
     let text = print_plan(alloc, net)?;
+    answer.clear();
     answer.push_text(text.as_slice())?;
     Ok(End::Done)
 }
 
-/// Puts the document of a network and a line `end` into the buffer, which is empty.
+/// Puts the document of a network and a line `end` in place of what stood in the buffer.
 fn put_document(alloc: Global, answer: &mut Answer, net: &Network) -> Result<End, AllocError>
-    requires empty { answer.old.text ≡ [] }
     requires numbers { HasPlanNumbers net.now }
     ensures { IfOk result (λ end. PutsPlan Notation.Json net.now answer.new.text end) }
 {
@@ -115,11 +114,11 @@ fn put_document(alloc: Global, answer: &mut Answer, net: &Network) -> Result<End
     Ok(End::Done)
 }
 
-/// Puts a document and a line `end` into the buffer, which is empty.
+/// Puts a document and a line `end` in place of what stood in the buffer.
 fn push_document(answer: &mut Answer, document: &[u8]) -> Result<(), AllocError>
-    requires { answer.old.text ≡ [] }
     ensures { OnOk result (answer.new.text ≡ (document.now ++ 10 ∷ []) ++ printed_line end_words) }
 {
+    answer.clear();
     answer.push_text(document)?;
     answer.push_text(b"\n")?;
     answer.push_line(&[Word::Text("end")])

@@ -1,6 +1,6 @@
 //! The command `strong`: a plan, and its least strong schedule, or a certificate that it has none.
 
-ghost use Rattle.std.specs.Prelude.{◌≡◌, ◌++◌, [], IfOk};
+ghost use Rattle.std.specs.Prelude.{◌≡◌, ◌++◌, IfOk};
 ghost use Rattle.net_model.specs.Network.{HasPlanNumbers};
 ghost use Rattle.cert_format.specs.StrongWords.{HasStrongWeights, OfOneKind, printed_strong};
 ghost use Rattle.strong_command.specs.StrongAnswers.{PutsStrong, PutsStrongly, StrongPromise};
@@ -93,10 +93,9 @@ impl OneAnswer for StrongQuestion {
     }
 }
 
-/// Puts the least strong schedule of a network into the buffer, which is empty, or that it has
-/// none.
+/// Puts the least strong schedule of a network, or that it has none, in place of what stood in the
+/// buffer.
 fn put_strong(alloc: Global, answer: &mut Answer, net: &Network) -> Result<End, AllocError>
-    requires empty { answer.old.text ≡ [] }
     requires numbers { HasPlanNumbers net.now }
     ensures { IfOk result (PutsStrong net.now answer.new.text) }
 {
@@ -107,33 +106,33 @@ fn put_strong(alloc: Global, answer: &mut Answer, net: &Network) -> Result<End, 
     }
 }
 
-/// Puts the moments of the executable points of a network into the buffer, which is empty.
+/// Puts the moments of the executable points of a network in place of what stood in the buffer.
 fn put_schedule(
     alloc: Global,
     answer: &mut Answer,
     net: &Network,
     times: &[u64],
 ) -> Result<End, AllocError>
-    requires { answer.old.text ≡ [] }
     ensures { IfOk result (λ end. (answer.new.text ≡ strong_line ++ times_text
         (executable_names net.now) times.now) × (end ≡ End.Done)) }
 {
     let names = executable_names(alloc, net)?;
+    answer.clear();
     answer.push_line(&[Word::Text("strongly controllable")])?;
     push_times(answer, names.as_slice(), times)?;
     Ok(End::Done)
 }
 
-/// Puts that a network has no strong schedule into the buffer, which is empty, and the certificate
-/// of that.
+/// Puts that a network has no strong schedule, and the certificate of that, in place of what stood
+/// in the buffer.
 fn put_refutation(alloc: Global, answer: &mut Answer, cert: &StrongCert) -> Result<End, AllocError>
-    requires empty { answer.old.text ≡ [] }
     requires of_one_kind { OfOneKind cert.now }
     requires weights { HasStrongWeights cert.now }
     ensures { IfOk result (λ end. (answer.new.text ≡ not_strong_line ++ printed_strong cert.now)
         × (end ≡ End.Refused)) }
 {
     let text = print_strong(alloc, cert)?;
+    answer.clear();
     answer.push_line(&[Word::Text("not strongly controllable")])?;
     answer.push_text(text.as_slice())?;
     Ok(End::Refused)

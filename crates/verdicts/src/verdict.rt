@@ -3,7 +3,6 @@
 ghost use Rattle.std.specs.Prelude.{◌≡◌, ◌≤◌, IfOk};
 ghost use Rattle.net_model.specs.ShownForm.{shown_form};
 ghost use Rattle.cell_table.specs.Limits.{key_count, most_keys};
-ghost use Rattle.work_board.specs.Limits.{most_seats};
 ghost use Rattle.verdicts.specs.Decisions.{IsDecidedBy, IsOrderedClosure, IsOrderedForwardTable};
 ghost use Rattle.verdicts.specs.Verdict.{IsVerdictBy, refutation_of};
 
@@ -14,8 +13,8 @@ use cert_format::Certificate;
 use forward_closure::ForwardClosed;
 use net_model::Network;
 use network_closure::Closed;
-use parallel_rounds::Gate;
-use std::alloc::{AllocError, Global};
+use parallel_rounds::{Gate, Workers};
+use std::alloc::AllocError;
 use std::thread::Threads;
 use strategy_model::laws::shown::law_controllable_is_shown;
 
@@ -37,72 +36,56 @@ pub enum Verdict<T> {
 /// shown form (`law_controllable_is_shown`, strategy_model); a network that is excluded already if
 /// every link takes its longest duration is refused before a table is closed. A session is opened
 /// only if the network is not controllable, since the nodes of the certificate are those of its
-/// rounds. So many workers, 1 to 64, test the table and make the rows of a round; the gate is
-/// called before each row. `AllocError` comes only if memory is refused. The verdict depends
-/// neither on the number of workers nor on the gate.
+/// rounds. The workers test the table and make the rows of a round; the gate is called before each
+/// row. `AllocError` comes only if memory is refused. The verdict depends neither on the number of
+/// workers nor on the gate.
 pub fn decide<R: Threads + Sync, G: Gate>(
-    rt: &R,
-    alloc: Global,
+    workers: &Workers<'_, R, G>,
     net: Network,
-    workers: u32,
-    gate: &G,
 ) -> Result<Verdict<ForwardClosed>, AllocError>
-    requires { (1 ≤ workers) × (workers ≤ most_seats) }
     ensures { IfOk result (IsVerdictBy IsOrderedForwardTable net) }
 {
-    let shown = net.shown(alloc)?;
-    let found = forward_table_if_controllable(rt, alloc, &shown, workers)?;
-    verdict_by(rt, alloc, net, shown, found, workers, gate)
+    let shown = net.shown(workers.alloc())?;
+    let found = forward_table_if_controllable(workers, &shown)?;
+    verdict_by(workers, net, shown, found)
 }
 
 /// Decides the same by the closure of the shown form, for those who prove a network controllable.
 pub fn decide_by_closure<R: Threads + Sync, G: Gate>(
-    rt: &R,
-    alloc: Global,
+    workers: &Workers<'_, R, G>,
     net: Network,
-    workers: u32,
-    gate: &G,
 ) -> Result<Verdict<Closed>, AllocError>
-    requires { (1 ≤ workers) × (workers ≤ most_seats) }
     ensures { IfOk result (IsVerdictBy IsOrderedClosure net) }
 {
-    let shown = net.shown(alloc)?;
-    let found = closure_if_controllable(rt, alloc, &shown, workers)?;
-    verdict_by(rt, alloc, net, shown, found, workers, gate)
+    let shown = net.shown(workers.alloc())?;
+    let found = closure_if_controllable(workers, &shown)?;
+    verdict_by(workers, net, shown, found)
 }
 
-/// Decides the same for a network whose keys fit into shared cells, by these: so many workers, 1 to
-/// 64, relax the cells of its shown form. The certificate is made of rounds here too. `AllocError`
-/// comes only if memory is refused.
+/// Decides the same for a network whose keys fit into shared cells, by these: the workers relax the
+/// cells of its shown form. The certificate is made of rounds here too. `AllocError` comes only if
+/// memory is refused.
 pub fn decide_by_cells<R: Threads + Sync, G: Gate>(
-    rt: &R,
-    alloc: Global,
+    workers: &Workers<'_, R, G>,
     net: Network,
-    workers: u32,
-    gate: &G,
 ) -> Result<Verdict<Closed>, AllocError>
-    requires workers { (1 ≤ workers) × (workers ≤ most_seats) }
     requires few { key_count net ≤ most_keys }
     ensures { IfOk result (IsVerdictBy IsOrderedClosure net) }
 {
-    let shown = net.shown(alloc)?;
-    let found = closure_by_cells(rt, alloc, &shown, workers)?;
-    verdict_by(rt, alloc, net, shown, found, workers, gate)
+    let shown = net.shown(workers.alloc())?;
+    let found = closure_by_cells(workers, &shown)?;
+    verdict_by(workers, net, shown, found)
 }
 
 /// The verdict of a network, by the decision of its shown form.
 fn verdict_by<R: Threads + Sync, G: Gate, T: DecidingTable>(
-    rt: &R,
-    alloc: Global,
+    workers: &Workers<'_, R, G>,
     net: Network,
     shown: Network,
     found: Option<T>,
-    workers: u32,
-    gate: &G,
 ) -> Result<Verdict<T>, AllocError>
     requires as_shown { shown ≡ shown_form net }
     requires decided { IsDecidedBy T.decides shown found }
-    requires workers { (1 ≤ workers) × (workers ≤ most_seats) }
     ensures { IfOk result (IsVerdictBy T.decides net) }
 {
     law_controllable_is_shown();
@@ -114,7 +97,7 @@ fn verdict_by<R: Threads + Sync, G: Gate, T: DecidingTable>(
             closed,
         }),
         None => {
-            let certificate = certify_by_rounds(rt, alloc, &net, workers, gate)?;
+            let certificate = certify_by_rounds(workers, &net)?;
             Ok(Verdict::Refuted(certificate))
         }
     }

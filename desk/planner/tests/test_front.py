@@ -6,17 +6,64 @@ import io
 import os
 import signal
 import subprocess
+from pathlib import Path
+from unittest import mock
 
 from planner.commands import COMMANDS
-from planner.faults import Status
+from planner.faults import Fault, Status
 from planner.front import parser_of
 from planner.plan import STANDARD_INPUT, load, source_of
-from planner.program import Session
+from planner.program import Program, Session
 from planner.tests.children import Terminal
 from planner.tests.support import EXAMPLES, ROOT, Case, planner, program, repeated
 
 LAUNCHER = ROOT / "planner"
 ROVER = EXAMPLES / "rover" / "plan.stnu"
+
+
+class First(Case):
+    """The first call, before which the program is compiled by the launcher's tool, which is a stand-in here."""
+
+    def setUp(self):
+        super().setUp()
+        kept = mock.patch.dict(os.environ)
+        kept.start()
+        self.addCleanup(kept.stop)
+        os.environ.pop("STNU_PROGRAM", None)
+        self.write("stnu", "#!/bin/sh\necho controllable\n")
+        os.chmod("stnu", 0o755)
+        Path("tools/start").mkdir(parents=True)
+        self.compiler("print(*sys.argv[1:], file=open('asked', 'w'))")
+
+    def compiler(self, text):
+        self.write("tools/start/__main__.py", f"import sys\n{text}\n")
+
+    def asked(self, *words, **how):
+        Path("asked").write_text("", encoding="utf-8")
+        self.assertEqual(Program("./stnu", **how).call(words).first, "controllable")
+        return Path("asked").read_text(encoding="utf-8").split()
+
+    def test_one_command_is_enough_where_no_other_is_called(self):
+        self.assertEqual(self.asked("check", calls_one=True), ["which", "--command", "check", "--alone"])
+        self.assertEqual(self.asked("check", "--proof", calls_one=True), ["which", "--command", "check"])
+        self.assertEqual(self.asked("check"), ["which"])
+
+    def test_the_program_that_is_asked_for_is_made(self):
+        os.environ["STNU_PROGRAM"] = "checked"
+        self.assertEqual(self.asked("check", calls_one=True), ["which", "checked"])
+
+    def test_what_is_compiled_is_not_asked_for(self):
+        Path("out/start").mkdir(parents=True)
+        self.write("out/start/one-check", "")
+        self.assertEqual(self.asked("check", calls_one=True), [])
+        self.assertEqual(self.asked("check", "--proof", calls_one=True), ["which", "--command", "check"])
+        self.write("out/start/checked", "")
+        self.assertEqual(self.asked("judge"), [])
+
+    def test_that_there_is_no_program_is_told(self):
+        self.compiler("sys.exit(1)")
+        with self.assertRaisesRegex(Fault, "has no program to run"):
+            Program("./stnu").call(["check"])
 
 
 class Words(Case):

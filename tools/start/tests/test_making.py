@@ -1,17 +1,21 @@
-"""What is cut of sources, which modules are split, and what is told of a long work."""
+"""What is cut of sources, which modules are split, what answers one command, and what is told of a
+long work."""
 
 import contextlib
 import io
 import os
 import subprocess
+import sys
 import tempfile
 import unittest
 from pathlib import Path
 from unittest import mock
 
-from shared.making import Guarded, kit
+from shared.making import Crates, Guarded, kit, locked
 from shared.progress import Progress
+from start import one_command, which
 from start.needed import LEFT_OUT, Source, Unread, copies, read_reached, reached_in, write_reached
+from start.one_command import OneCommand, sum_of_code, with_empty_laws
 from start.parts import Compiling, OtherForm, run
 
 SOURCE = """//! A list.
@@ -229,6 +233,80 @@ class Split(unittest.TestCase):
         self.assertEqual((objects, names), ([Path(self.room, "whole.o")], []))
         self.assertIn(b"one_function", objects[0].read_bytes())
         self.assertIn("of another form", said.getvalue())
+
+
+class Smaller(unittest.TestCase):
+    """The crates of a program of one command."""
+
+    def setUp(self):
+        self.room = self.enterContext(tempfile.TemporaryDirectory())
+
+    def crates(self, command, is_alone=False):
+        return OneCommand(Crates(), self.room, command, is_alone)
+
+    def test_other_commands_go_and_each_line_stays_where_it_was(self):
+        crates = self.crates("check")
+        self.assertEqual(crates.libraries["stnu_run"], ["plan_port", "command_contracts", "check_command"])
+        found = [Path(it.folder("stnu_run"), "src/dispatch.rt").read_text(encoding="utf-8") for it in (Crates(), crates)]
+        self.assertNotIn("Judge>", found[1])
+        for was, line in zip(*(it.split("\n") for it in found), strict=True):
+            self.assertIn(line, (was, ""))
+
+    def test_each_command_has_a_program(self):
+        for command in "judge check run session show play strong deadline fleet forge".split():
+            self.assertNotIn("clap", self.crates(command, is_alone=True).kit_below("stnu_cli"), command)
+
+    def test_what_is_no_command_has_none(self):
+        for word in ("help", "check ", "law"):
+            with self.assertRaises(Unread):
+                self.crates(word)
+
+    def test_a_file_of_laws_with_something_else_is_refused(self):
+        law = "pub fn law_one()\n    ensures { x }\n{\n    law_two();\n}\n"
+        self.assertEqual(with_empty_laws(law), "pub fn law_one() {}\n")
+        for more in ("fn two() {}\n", "pub fn law_two() -> bool\n    ensures { x }\n{\n    true\n}\n"):
+            with self.assertRaises(Unread):
+                with_empty_laws(law + more)
+
+    def test_no_words_are_read_as_by_the_sources(self):
+        same = sum_of_code(self.crates("check").reading()) == one_command.READS_OF
+        self.assertTrue(same, "see whether no_words.rt.txt reads as command_words does; then READS_OF is that sum")
+
+    def test_words_are_parsed_where_they_are_read_in_another_way(self):
+        with mock.patch.object(one_command, "READS_OF", ""):
+            self.assertEqual(self.crates("check", is_alone=True).libraries["command_words"], ["clap"])
+        self.assertEqual(self.crates("check", is_alone=True).libraries["command_words"], [])
+
+    def test_names_are_those_of_words_that_a_command_may_have(self):
+        self.assertEqual([which.one_of("check", it).name for it in (True, False)], ["one-check", "one-check-words"])
+        for word in (None, "", "a/b", "check-words", "--help"):
+            self.assertIsNone(which.one_of(word, True))
+
+    def test_what_compiles_other_sources_behind_is_ended(self):
+        lock = Path(self.room, "lock")
+        hold = "import fcntl, sys, time; lock = open(sys.argv[1], 'a'); fcntl.flock(lock, 2); print(flush=True); time.sleep(60)"
+        for sum, is_ended in (("of these", False), ("of others", True)):
+            holds = subprocess.Popen([sys.executable, "-c", hold, lock], stdout=subprocess.PIPE)
+            holds.stdout.readline()
+            lock.write_text(f"{holds.pid} {sum}\n", encoding="utf-8")
+            with mock.patch.object(which, "LOCK", lock):
+                which.end_behind("of these")
+            if not is_ended:
+                self.assertIsNone(holds.poll())
+                holds.kill()
+            self.assertEqual(holds.wait(10), -15 if is_ended else -9)
+            holds.stdout.close()
+
+    def test_who_has_no_lock_is_not_ended(self):
+        lock = Path(self.room, "lock")
+        waits = subprocess.Popen(["sleep", "60"])
+        lock.write_text(f"{waits.pid} of others\n", encoding="utf-8")
+        with mock.patch.object(which, "LOCK", lock):
+            which.end_behind("of these")
+        self.assertIsNone(waits.poll())
+        waits.kill()
+        waits.wait()
+        os.close(locked(lock, None)[0])
 
 
 class Told(unittest.TestCase):

@@ -9,8 +9,8 @@ use Rattle.common_answers.specs.VerdictLines.{PutsRefuted}
 use Rattle.verdicts.specs.declared.verdict.Verdict.TheVariants.{Controllable, Refuted}
 use Rattle.check_command.proofs.check_question.put_with_proof.Goals as goal
 
-pub put_proof-requires-clause-verdict : goal.put_proof-requires-clause-verdict
-put_proof-requires-clause-verdict g c = (subst (IsVerdictBy IsOrderedClosure c.args.net) c.in-Controllable.is c.in_ok-stated.ensures).1
+pub put_proof-requires : goal.put_proof-requires
+put_proof-requires g c = record { verdict = (subst (IsVerdictBy IsOrderedClosure c.args.net) c.in-Controllable.is c.in_ok-stated.ensures).1 }
 
 pub returns-in-Controllable : goal.returns-in-Controllable
 returns-in-Controllable g c =

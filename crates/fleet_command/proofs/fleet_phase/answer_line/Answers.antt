@@ -38,12 +38,12 @@ put_named-requires-clause-spare_capacity c =
     let size = ap length c.bytes-2.ensures.value in
     let fits = c.answer.ensures.size in
     let spare_capacity : fleet_capacity (members_of fleet entries) ≤ c.args.answer.now.capacity = subst (λ (ms : List (Member EventRun)). fleet_capacity ms ≤ c.args.answer.now.capacity) (sym c.serving.view_is) c.requires.spare_capacity in
-    let none = ap length c.requires.empty in
+    let none = ap length c.clear.ensures.text in
     let most =
     fits_named (slot_stands fleet entry.slot) c.bytes.result.now c.bytes-2.result.now (fleet_capacity (members_of fleet entries)) c.args.answer.now.capacity short (omega (arith, size, fits))
     (capacity_here fleet entries place entry here) spare_capacity
     c.has_capacity.ensures in
-    omega (arith, most, none)
+    omega (arith, most, none, c.clear.ensures.capacity)
 
 pub invariant_of-result : goal.invariant_of-result
 invariant_of-result c =
@@ -63,7 +63,7 @@ invariant_of-result c =
     let own : count ≡ own_number entry.count c.args.number = omega (arith, c.saturating_add.ensures, c.min-count.ensures, c.ranges.number.fits) in
     let put = c.put_named.new.answer.text in
     let puts : put ≡ named entry.name said =
-    c.put_named.ensures.text ∙ (ap (λ (t : List ℕ). t ++ named c.bytes.result.now c.bytes-2.result.now) c.requires.empty
+    c.put_named.ensures.text ∙ (ap (λ (t : List ℕ). t ++ named c.bytes.result.now c.bytes-2.result.now) c.clear.ensures.text
     ∙ (ap (λ (n : List ℕ). named n c.bytes-2.result.now) c.bytes.ensures.text ∙ ap (λ (b : List ℕ). named entry.name b) c.bytes-2.ensures.value)) in
     let grown : c.serving.inside.answerer.said.capacity ≤ c.answer.new.self.said.capacity = c.answer.ensures.capacity in (
       placed_after fleet after entries place c.args.number count line said put entry c.serving.invariant.0 here own slot puts,
@@ -89,7 +89,7 @@ returns-clause-answers c =
     let own : count ≡ own_number entry.count c.args.number = omega (arith, c.saturating_add.ensures, c.min-count.ensures, c.ranges.number.fits) in
     let put = c.put_named.new.answer.text in
     let puts : put ≡ named entry.name said =
-    c.put_named.ensures.text ∙ (ap (λ (t : List ℕ). t ++ named c.bytes.result.now c.bytes-2.result.now) c.requires.empty
+    c.put_named.ensures.text ∙ (ap (λ (t : List ℕ). t ++ named c.bytes.result.now c.bytes-2.result.now) c.clear.ensures.text
     ∙ (ap (λ (n : List ℕ). named n c.bytes-2.result.now) c.bytes.ensures.text ∙ ap (λ (b : List ℕ). named entry.name b) c.bytes-2.ensures.value)) in
     subst (λ (ms : List (Member EventRun)). AnswersMember ms place c.args.number line put (members_of after (slice_set entries place (record { name = entry.name; slot = entry.slot; count = count })))) c.serving.view_is
     (answers_member fleet after entries place c.args.number count line said put entry c.serving.invariant.0 here own slot puts)
@@ -112,8 +112,8 @@ returns-clause-spare_capacity c =
     let own : count ≡ own_number entry.count c.args.number = omega (arith, c.saturating_add.ensures, c.min-count.ensures, c.ranges.number.fits) in
     let put = c.put_named.new.answer.text in
     let puts : put ≡ named entry.name said =
-    c.put_named.ensures.text ∙ (ap (λ (t : List ℕ). t ++ named c.bytes.result.now c.bytes-2.result.now) c.requires.empty
+    c.put_named.ensures.text ∙ (ap (λ (t : List ℕ). t ++ named c.bytes.result.now c.bytes-2.result.now) c.clear.ensures.text
     ∙ (ap (λ (n : List ℕ). named n c.bytes-2.result.now) c.bytes.ensures.text ∙ ap (λ (b : List ℕ). named entry.name b) c.bytes-2.ensures.value)) in
     let spare_capacity : fleet_capacity (members_of fleet entries) ≤ c.args.answer.now.capacity = subst (λ (ms : List (Member EventRun)). fleet_capacity ms ≤ c.args.answer.now.capacity) (sym c.serving.view_is) c.requires.spare_capacity in
     let less = answers_fit fleet after entries place c.args.number count line said put entry c.serving.invariant.0 here own slot puts in
-    omega (arith, less, spare_capacity, c.put_named.ensures.capacity)
+    omega (arith, less, spare_capacity, c.clear.ensures.capacity, c.put_named.ensures.capacity)

@@ -10,8 +10,8 @@ use Rattle.play_command.specs.declared.plan_day.PlayWords.{PlayWords}
 use Rattle.verdicts.specs.declared.verdict.Verdict.TheVariants.{Controllable, Refuted}
 use Rattle.play_command.proofs.plan_day.put_day.Goals as goal
 
-pub put_times-requires-clause-verdict : goal.put_times-requires-clause-verdict
-put_times-requires-clause-verdict g c = (subst (IsVerdictBy IsOrderedForwardTable c.args.net) c.in-Controllable.is c.in_ok-stated.ensures).1
+pub put_times-requires : goal.put_times-requires
+put_times-requires g c = record { verdict = (subst (IsVerdictBy IsOrderedForwardTable c.args.net) c.in-Controllable.is c.in_ok-stated.ensures).1 }
 
 pub returns-in-Controllable : goal.returns-in-Controllable
 returns-in-Controllable g c =

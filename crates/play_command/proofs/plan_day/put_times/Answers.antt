@@ -36,6 +36,6 @@ returns c =
     let earliest = subst (λ (s : List ℕ). IsEarliest shown s schedule) c.in_ok-situation.ensures.is c.in_ok-schedule.ensures in
     let put : c.push_times.new.answer.text ≡ controllable_line ++ text schedule =
     c.in_ok-push_times.ensures
-    ∙ (ap (λ (t : List ℕ). t ++ text c.as_slice.result.now) (c.in_ok-push_line.ensures.text ∙ ap (λ (t : List ℕ). t ++ controllable_line) c.requires.empty)
+    ∙ (ap (λ (t : List ℕ). t ++ text c.as_slice.result.now) (c.in_ok-push_line.ensures.text ∙ ap (λ (t : List ℕ). t ++ controllable_line) c.clear.ensures.text)
     ∙ ap (λ (moments : List ℕ). controllable_line ++ text moments) c.as_slice.ensures.value) in
     times_put c.law_earliest_is_shown.ensures c.args.which net shown schedule c.push_times.new.answer.text c.sound.ensures c.requires.verdict.as_shown c.in_ok-situation.ensures.situation earliest put

@@ -20,10 +20,12 @@ open-requires-after_bounds g c κs within =
     let most = c.into_vec.ensures.few in
     omega (arith, nets, few, same, most)
 
-pub put_starts-requires-clause-placed : goal.put_starts-requires-clause-placed
-put_starts-requires-clause-placed g c = λ at place entry is slot.
-    (placed_so c.into_vec.result.items c.in_ok-entries.field-0.nets.items c.in_ok-entries.field-0.entries.items c.in_ok-fleet.fleet c.in_ok-entries.ensures.nets c.in_ok-entries.ensures.entries c.in_ok-fleet.ensures).within
-    at place entry (sym (ap (λ (es : List FleetEntry). slice_get es at) c.as_slice.ensures.value) ∙ is) slot
+pub put_starts-requires : goal.put_starts-requires
+put_starts-requires g c = record {
+  placed = λ at place entry is slot.
+      (placed_so c.into_vec.result.items c.in_ok-entries.field-0.nets.items c.in_ok-entries.field-0.entries.items c.in_ok-fleet.fleet c.in_ok-entries.ensures.nets c.in_ok-entries.ensures.entries c.in_ok-fleet.ensures).within
+      at place entry (sym (ap (λ (es : List FleetEntry). slice_get es at) c.as_slice.ensures.value) ∙ is) slot;
+}
 
 pub invariant_of-result : goal.invariant_of-result
 invariant_of-result g c = (

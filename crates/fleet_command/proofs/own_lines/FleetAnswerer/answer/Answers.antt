@@ -1,4 +1,4 @@
-use Rattle.std.proofs.Common.{sym, subst, arith}
+use Rattle.std.proofs.Common.{sym, subst}
 use Rattle.fleet_command.specs.FleetStands.{SlotSays}
 use Rattle.fleet_command.specs.declared.entries.FleetSlot.{FleetSlot}
 use Rattle.fleet_command.proofs.SlotLemmas.{capacity_at, slot_opened}
@@ -11,4 +11,4 @@ returns-in-Opened-clause-says c =
 
 pub answer_opened-requires-clause-spare_capacity : goal.answer_opened-requires-clause-spare_capacity
 answer_opened-requires-clause-spare_capacity c =
-    capacity_at c.args.self.now.fleet c.in-Opened.place c.clear.new.self.capacity (c.requires.placed c.in-Opened.place c.in-Opened.is) (λ place plan here. let fits = c.requires.spare_capacity place plan here in omega (arith, c.clear.ensures.capacity, fits))
+    capacity_at c.args.self.now.fleet c.in-Opened.place c.args.self.now.said.capacity (c.requires.placed c.in-Opened.place c.in-Opened.is) c.requires.spare_capacity

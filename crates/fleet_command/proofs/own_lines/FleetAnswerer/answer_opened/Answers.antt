@@ -7,7 +7,7 @@ use Rattle.fleet_command.proofs.own_lines.FleetAnswerer.answer_opened.Goals as g
 pub returns-in-Ok-Blank-clause-changes : goal.returns-in-Ok-Blank-clause-changes
 returns-in-Ok-Blank-clause-changes c =
     let net = c.network.result.now in
-    blank_changes c.args.self.now.fleet c.args.place c.args.number c.args.line.now c.args.self.now.said.text net c.network.ensures.value c.requires.empty
+    blank_changes c.args.self.now.fleet c.args.place c.args.number c.args.line.now c.clear.new.self.text net c.network.ensures.value c.clear.ensures.text
     (subst (λ (e : Event). IsEventLine net (said e c.read.new.self) c.args.line.now) c.in-Ok-Blank.field-0-is c.in-Ok-Blank.ensures.grammar)
 
 pub returns-in-Ok-At-clause-changes : goal.returns-in-Ok-At-clause-changes

@@ -1,8 +1,8 @@
-use Rattle.std.proofs.Common.{◌≡◌}
+use Rattle.network_closure.specs.Progress.{StaysAt}
 use Rattle.network_closure.proofs.depth_first.DepthFirst.make.Given as goal
 
-abbrev pub invariant-loop-frame : goal.invariant-loop-frame
-invariant-loop-frame l = l.self.net ≡ l.fn.self.net
+abbrev pub invariant-loop-row : goal.invariant-loop-row
+invariant-loop-row g l = StaysAt l.fn.self l.self
 
-abbrev pub decreases-loop-frame : goal.decreases-loop-frame
-decreases-loop-frame l = l.self.left
+abbrev pub decreases-loop-row : goal.decreases-loop-row
+decreases-loop-row g l = l.self.left

@@ -10,8 +10,8 @@ use Rattle.verdicts.specs.Verdict.{IsVerdictBy}
 use Rattle.verdicts.specs.declared.verdict.Verdict.TheVariants.{Controllable, Refuted}
 use Rattle.run_command.proofs.plan_execution.RunBeginPlanNetwork.begin.Goals as goal
 
-pub begin_execution-requires-clause-closure : goal.begin_execution-requires-clause-closure
-begin_execution-requires-clause-closure g c = (subst (IsVerdictBy IsOrderedForwardTable c.into_network.result) c.in-Controllable.is c.in_ok-shown.ensures).1.by
+pub begin_execution-requires : goal.begin_execution-requires
+begin_execution-requires g c = record { closure = (subst (IsVerdictBy IsOrderedForwardTable c.into_network.result) c.in-Controllable.is c.in_ok-shown.ensures).1.by }
 
 pub returns-in-Controllable-clause-begins : goal.returns-in-Controllable-clause-begins
 returns-in-Controllable-clause-begins g c =
